@@ -1,0 +1,47 @@
+-- An answer is what it says: from the paper's outcome and counts it can be read back, so a promise on `answered` leaves one answer.
+-- Assumes nothing.
+use mathlib.Core.Path.{_≡_, refl, sym, ap, _∙_}
+use mathlib.Core.Bool.{cond}
+use Prim.Native.Nat.{ℕ}
+use lib.Dec.{eqb}
+use Rattle.model.specs.declared.Answer.{Answer}
+use Rattle.model.specs.declared.Outcome.{Outcome}
+use Rattle.model.specs.declared.Outcome.the-variants.{Address, Number, Length, Refused}
+use Rattle.model.specs.declared.Refusal.{Refusal}
+use Rattle.model.specs.declared.Refusal.the-variants.{TooLarge, FirstOutside, SecondOutside, Overlap, NoZero}
+use Rattle.model.specs.Answers.{Said, an-address, a-number, a-length, a-refusal, Reply, numberOf, saidOf, answered}
+
+refusalOf : ℕ → Refusal
+refusalOf r =
+    cond (eqb r 1) TooLarge (cond (eqb r 2) FirstOutside (cond (eqb r 3) SecondOutside (cond (eqb r 4) Overlap NoZero)))
+
+outcomeOf : Said → Outcome
+outcomeOf (an-address a) = Address a
+outcomeOf (a-number z) = Number z
+outcomeOf (a-length n) = Length n
+outcomeOf (a-refusal r) = Refused (refusalOf r)
+
+refusal-back : (r : Refusal) → refusalOf (numberOf r) ≡ r
+unfolding refusalOf
+refusal-back TooLarge = refl
+refusal-back FirstOutside = refl
+refusal-back SecondOutside = refl
+refusal-back Overlap = refl
+refusal-back NoZero = refl
+
+outcome-back : (o : Outcome) → outcomeOf (saidOf o) ≡ o
+unfolding outcomeOf
+outcome-back (Address a) = refl
+outcome-back (Number z) = refl
+outcome-back (Length n) = refl
+outcome-back (Refused r) = ap {B = Outcome} Refused (refusal-back r)
+
+answerOf : Reply → Answer
+answerOf r = record { outcome = outcomeOf (r .said); counts = record { numbers = r .counts } }
+
+answer-back : (a : Answer) → answerOf (answered a) ≡ a
+unfolding answerOf
+answer-back a = ap {B = Answer} (λ (o : Outcome). record { outcome = o; counts = a .counts }) (outcome-back (a .outcome))
+
+pub one-answer : (a b : Answer) → answered a ≡ answered b → a ≡ b
+one-answer a b e = sym (answer-back a) ∙ ap answerOf e ∙ answer-back b

@@ -1,0 +1,137 @@
+-- Document 01's worked numbers, proved of the written meaning itself, by computation: one table under the single claim `worked`.
+-- Assumes nothing.
+use mathlib.Core.Path.{_≡_, refl}
+use mathlib.Core.Bool.{Bool, true, false}
+use mathlib.Core.List.{List, [], _∷_}
+use Prim.Native.Nat.{ℕ, _+_, _*_, _-_, _^_}
+use lib.IntN.{pos, negsuc}
+use lib.ListN.{length, replicate}
+use Rattle.model.specs.Access.{Access, load, store}
+use Rattle.model.specs.Tally.{tally, total}
+use Rattle.model.specs.Lists.{upto, pairs, chunks, misaligned, wholeWords, phases, run, along, copyList, moveList, upward, stores, fillPhases, fillList, compareList, stringList}
+use Rattle.model.specs.Memory.{view, readLE, packed, over, mostWords}
+use Rattle.model.specs.Meaning.{first, memcpy, memmove, memset, memcmp}
+use Rattle.model.specs.Perform.{State, perform, moving, filling}
+use Rattle.model.specs.Refusals.{checked, rangesTable, copyTable, fillTable, stringTable}
+use Rattle.model.specs.Answers.{Said, an-address, a-number, a-length, a-refusal, Reply, copyAnswer, moveAnswer, fillAnswer, compareAnswer, bcmpAnswer, stringAnswer, copyWords, moveWords, fillWords}
+
+-- An outcome with its counts, as the document writes them: loads 1/2/4/8, stores 1/2/4/8.
+abbrev pub reply : Said → ℕ → ℕ → ℕ → ℕ → ℕ → ℕ → ℕ → ℕ → Reply
+reply out l1 l2 l4 l8 s1 s2 s4 s8 =
+    record { said = out; counts = l1 ∷ l2 ∷ l4 ∷ l8 ∷ s1 ∷ s2 ∷ s4 ∷ s8 ∷ [] }
+
+-- All counts zero.
+abbrev pub nothing : Said → Reply
+nothing out = reply out 0 0 0 0 0 0 0 0
+
+-- 16 words; 16 words whose bytes 0 and 1 are 0 and 255; one word of eight ones; one whose last byte is zero.
+abbrev memory : List ℕ
+memory = replicate 16 0
+
+abbrev unlike : List ℕ
+unlike = 0xff00 ∷ replicate 15 0
+
+abbrev ones : List ℕ
+ones = 0x0101010101010101 ∷ []
+
+abbrev ended : List ℕ
+ended = 0x0001010101010101 ∷ []
+
+-- Each byte its own address, and nothing held.
+abbrev numbered : ℕ → ℕ
+numbered a = a
+
+abbrev fresh : State
+fresh = record { bytes = numbered; held = λ a. 0 }
+
+pub record Worked : Type 0 where
+  -- The document's table.
+  pub P1 : copyAnswer 8 16 0 32 15 ≡ reply (an-address 0) 15 0 0 0 15 0 0 0
+  pub P2 : copyAnswer 8 16 0 32 16 ≡ reply (an-address 0) 0 0 0 2 0 0 0 2
+  pub P3 : copyAnswer 8 16 0 33 16 ≡ reply (an-address 0) 2 1 1 1 0 0 0 2
+  pub P3-list : copyList 8 0 33 16
+      ≡ load 1 33 ∷ load 2 34 ∷ load 4 36 ∷ load 8 40 ∷ store 8 0 ∷ load 1 48 ∷ store 8 8 ∷ []
+  pub P4 : copyAnswer 8 16 3 40 30 ≡ reply (an-address 3) 8 1 1 2 6 0 0 3
+  pub P5 : copyAnswer 8 16 1 40 30 ≡ reply (an-address 1) 16 1 1 1 14 0 0 2
+  pub P5-length : length (copyList 8 1 40 30) ≡ 35
+  pub P5-bound : 4 * length (copyList 8 1 40 30) ≡ 30 + 110
+  pub P6 : moveAnswer 8 16 8 8 0 ≡ nothing (an-address 8)
+  pub P6-forward : upward 8 8 0 ≡ true
+  pub P7 : moveAnswer 8 16 8 8 16 ≡ reply (an-address 8) 0 0 0 2 0 0 0 2
+  pub P7-backward : moveList 8 8 8 16 ≡ load 8 16 ∷ store 8 16 ∷ load 8 8 ∷ store 8 8 ∷ []
+  pub P8 : moveAnswer 8 16 9 8 16 ≡ reply (an-address 9) 10 1 1 0 8 0 0 1
+  pub P8-backward : upward 9 8 16 ≡ false
+  pub P9 : moveAnswer 8 16 8 9 16 ≡ reply (an-address 8) 2 1 1 1 0 0 0 2
+  pub P9-forward : upward 8 9 16 ≡ true
+  pub P10 : fillAnswer 8 16 1 16 ≡ reply (an-address 1) 0 0 0 0 8 0 0 1
+  pub P11 : compareAnswer 8 unlike 0 1 1 ≡ reply (a-number (negsuc 254)) 2 0 0 0 0 0 0 0
+  pub P12 : stringAnswer 8 memory 128 ≡ nothing (a-refusal 2)
+  -- A far destination goes forward: its list is that of a copy.
+  pub far-forward : moveList 8 24 8 16 ≡ load 8 8 ∷ store 8 24 ∷ load 8 16 ∷ store 8 32 ∷ []
+  -- Performing a list leaves what C says: P3's, P8's overlapping move, and P10's fill with 7.
+  pub P3-performed : packed 8 8 (perform (moving 0 33) (copyList 8 0 33 16) fresh .bytes) ≡ packed 8 8 (memcpy 0 33 16 numbered)
+  pub P8-performed : packed 8 4 (perform (moving 9 8) (moveList 8 9 8 16) fresh .bytes) ≡ packed 8 4 (memmove 9 8 16 numbered)
+  pub P10-performed : packed 8 4 (perform (filling 7) (fillList 8 1 16) fresh .bytes) ≡ packed 8 4 (memset 1 (pos 7) 16 numbered)
+  -- Each refusal of each call, at its edge: refused, and accepted one before.
+  pub copy-1 : copyAnswer 8 8193 0 32 0 ≡ nothing (a-refusal 1)
+  pub copy-1-not : copyAnswer 8 8192 0 32 0 ≡ nothing (an-address 0)
+  pub copy-2 : copyAnswer 8 16 113 0 16 ≡ nothing (a-refusal 2)
+  pub copy-2-not : copyAnswer 8 16 112 0 16 ≡ reply (an-address 112) 0 0 0 2 0 0 0 2
+  pub copy-3 : copyAnswer 8 16 0 113 16 ≡ nothing (a-refusal 3)
+  pub copy-3-not : copyAnswer 8 16 0 112 16 ≡ reply (an-address 0) 0 0 0 2 0 0 0 2
+  pub copy-4-above : copyAnswer 8 16 0 15 16 ≡ nothing (a-refusal 4)
+  pub copy-4-above-not : copyAnswer 8 16 0 16 16 ≡ reply (an-address 0) 0 0 0 2 0 0 0 2
+  pub copy-4-below : copyAnswer 8 16 15 0 16 ≡ nothing (a-refusal 4)
+  pub copy-4-below-not : copyAnswer 8 16 16 0 16 ≡ reply (an-address 16) 0 0 0 2 0 0 0 2
+  pub copy-4-one : copyAnswer 8 16 0 0 1 ≡ nothing (a-refusal 4)
+  pub copy-4-none : copyAnswer 8 16 0 0 0 ≡ nothing (an-address 0)
+  pub move-1 : moveAnswer 8 8193 0 32 0 ≡ nothing (a-refusal 1)
+  pub move-1-not : moveAnswer 8 8192 0 32 0 ≡ nothing (an-address 0)
+  pub move-2 : moveAnswer 8 16 113 0 16 ≡ nothing (a-refusal 2)
+  pub move-2-not : moveAnswer 8 16 112 0 16 ≡ reply (an-address 112) 0 0 0 2 0 0 0 2
+  pub move-3 : moveAnswer 8 16 0 113 16 ≡ nothing (a-refusal 3)
+  pub move-3-not : moveAnswer 8 16 0 112 16 ≡ reply (an-address 0) 0 0 0 2 0 0 0 2
+  pub fill-1 : fillAnswer 8 8193 0 0 ≡ nothing (a-refusal 1)
+  pub fill-1-not : fillAnswer 8 8192 0 0 ≡ nothing (an-address 0)
+  pub fill-2 : fillAnswer 8 16 113 16 ≡ nothing (a-refusal 2)
+  pub fill-2-not : fillAnswer 8 16 112 16 ≡ reply (an-address 112) 0 0 0 0 0 0 0 2
+  pub compare-1 : compareAnswer 8 (replicate 8193 0) 0 0 0 ≡ nothing (a-refusal 1)
+  pub compare-1-not : compareAnswer 8 (replicate 8192 0) 0 0 0 ≡ nothing (a-number (pos 0))
+  pub compare-2 : compareAnswer 8 memory 127 0 2 ≡ nothing (a-refusal 2)
+  pub compare-2-not : compareAnswer 8 memory 126 0 2 ≡ reply (a-number (pos 0)) 4 0 0 0 0 0 0 0
+  pub compare-3 : compareAnswer 8 memory 0 127 2 ≡ nothing (a-refusal 3)
+  pub compare-3-not : compareAnswer 8 memory 0 126 2 ≡ reply (a-number (pos 0)) 4 0 0 0 0 0 0 0
+  pub bcmp-1 : bcmpAnswer 8 (replicate 8193 0) 0 0 0 ≡ nothing (a-refusal 1)
+  pub bcmp-1-not : bcmpAnswer 8 (replicate 8192 0) 0 0 0 ≡ nothing (a-number (pos 0))
+  pub bcmp-2 : bcmpAnswer 8 memory 127 0 2 ≡ nothing (a-refusal 2)
+  pub bcmp-2-not : bcmpAnswer 8 memory 126 0 2 ≡ reply (a-number (pos 0)) 4 0 0 0 0 0 0 0
+  pub bcmp-3 : bcmpAnswer 8 memory 0 127 2 ≡ nothing (a-refusal 3)
+  pub bcmp-3-not : bcmpAnswer 8 memory 0 126 2 ≡ reply (a-number (pos 0)) 4 0 0 0 0 0 0 0
+  pub string-1 : stringAnswer 8 (replicate 8193 0) 0 ≡ nothing (a-refusal 1)
+  pub string-1-not : stringAnswer 8 (replicate 8192 0) 0 ≡ reply (a-length 0) 1 0 0 0 0 0 0 0
+  pub string-2-not : stringAnswer 8 memory 127 ≡ reply (a-length 0) 1 0 0 0 0 0 0 0
+  pub string-5 : stringAnswer 8 ones 3 ≡ reply (a-refusal 5) 5 0 0 0 0 0 0 0
+  pub string-5-not : stringAnswer 8 ended 3 ≡ reply (a-length 4) 5 0 0 0 0 0 0 0
+  -- The first line that holds is given; sums are exact; length 0 is accepted at M and not past it, also where M is 0.
+  pub one-before-two : copyAnswer 8 8193 (2 ^ 64 - 1) 0 1 ≡ nothing (a-refusal 1)
+  pub two-before-three : copyAnswer 8 16 128 128 1 ≡ nothing (a-refusal 2)
+  pub three-before-four : copyAnswer 8 16 120 121 8 ≡ nothing (a-refusal 3)
+  pub exact-sum : copyAnswer 8 16 (2 ^ 64 - 8) 0 16 ≡ nothing (a-refusal 2)
+  pub last-address : fillAnswer 8 16 (2 ^ 64 - 1) 1 ≡ nothing (a-refusal 2)
+  pub empty-at-end : copyAnswer 8 16 128 128 0 ≡ nothing (an-address 128)
+  pub empty-past-end : copyAnswer 8 16 129 0 0 ≡ nothing (a-refusal 2)
+  pub empty-source-past-end : copyAnswer 8 16 0 129 0 ≡ nothing (a-refusal 3)
+  pub no-words : moveAnswer 8 0 0 0 0 ≡ nothing (an-address 0)
+  pub no-words-string : stringAnswer 8 [] 0 ≡ nothing (a-refusal 2)
+  -- The words left: a copy, a move onto itself by one byte, fills with -1 and 256, and a refused call.
+  pub copied : copyWords 8 (0x0807060504030201 ∷ 0 ∷ []) 9 1 3 ≡ 0x0807060504030201 ∷ 0x04030200 ∷ []
+  pub moved : moveWords 8 (0x0807060504030201 ∷ 0 ∷ []) 1 0 8 ≡ 0x0706050403020101 ∷ 0x08 ∷ []
+  pub filled : fillWords 8 (0 ∷ 0 ∷ []) 7 (negsuc 0) 2 ≡ 0xff00000000000000 ∷ 0xff ∷ []
+  pub filled-256 : fillWords 8 (0xffff ∷ []) 0 (pos 256) 1 ≡ 0xff00 ∷ []
+  pub refused-copy : copyWords 8 ones 0 0 1 ≡ ones
+  pub refused-move : moveWords 8 ones 1 0 8 ≡ ones
+  pub refused-fill : fillWords 8 ones 1 (pos 0) 8 ≡ ones
+
+pub worked : Worked
+unfolding perform upto pairs chunks misaligned wholeWords phases run along stores fillPhases fillList compareList stringList total tally view readLE packed over first memcpy memmove memset memcmp checked rangesTable copyTable fillTable stringTable copyAnswer moveAnswer fillAnswer compareAnswer bcmpAnswer stringAnswer copyWords moveWords fillWords
+worked = search

@@ -1,0 +1,56 @@
+-- Document 01, "Refusal numbers": the table, for each call.
+-- Assumes nothing.
+use Prim.Native.Nat.{ℕ, _+_, _*_, _-_}
+use mathlib.Core.Bool.{Bool, cond, _&&_}
+use mathlib.Core.List.{List, [], _∷_, _++_}
+use lib.Dec.{leb, ltb, eqb}
+use lib.ListN.{length}
+use Rattle.model.specs.Memory.{mostWords, view}
+use Rattle.model.specs.Meaning.{strlen}
+
+-- A line of the table: the number, and whether what it is given for holds.
+pub record Line : Type 0 where
+  pub number : ℕ
+  pub holds : Bool
+
+-- Checked in this order; the first that holds is given, and none otherwise.
+unfoldable pub checked : {A : Type 0} → List Line → (ℕ → A) → A → A
+checked [] refused accepted = accepted
+checked (l ∷ ls) refused accepted = cond (l .holds) (refused (l .number)) (checked ls refused accepted)
+
+-- 1, all calls: k > 8,192 (on a core of 8-byte words).
+abbrev pub tooLarge : ℕ → ℕ → Line
+tooLarge W k = record { number = 1; holds = ltb (mostWords W) k }
+
+-- 2, destination, fill start or first range: address + n > M.
+abbrev pub firstOutside : ℕ → ℕ → ℕ → Line
+firstOutside M a n = record { number = 2; holds = ltb M (a + n) }
+
+-- 2, string length: address >= M.
+abbrev pub startOutside : ℕ → ℕ → Line
+startOutside M s = record { number = 2; holds = leb M s }
+
+-- 3, source or second range: address + n > M.
+abbrev pub secondOutside : ℕ → ℕ → ℕ → Line
+secondOutside M a n = record { number = 3; holds = ltb M (a + n) }
+
+-- 4, copy: n > 0 and dest < src + n and src < dest + n.
+abbrev pub overlap : ℕ → ℕ → ℕ → Line
+overlap dest src n = record { number = 4; holds = ltb 0 n && ltb dest (src + n) && ltb src (dest + n) }
+
+-- 5, string length: no zero byte from the start to M - 1, which are M - s bytes.
+abbrev pub noZero : ℕ → ℕ → (ℕ → ℕ) → Line
+noZero M s f = record { number = 5; holds = eqb (strlen s (M - s) f) (M - s) }
+
+-- The lines of each call, with M = W k. Move, compare and bcmp have two ranges, and nothing more.
+unfoldable pub rangesTable : ℕ → ℕ → ℕ → ℕ → ℕ → List Line
+rangesTable W k a b n = tooLarge W k ∷ firstOutside (W * k) a n ∷ secondOutside (W * k) b n ∷ []
+
+unfoldable pub copyTable : ℕ → ℕ → ℕ → ℕ → ℕ → List Line
+copyTable W k dest src n = rangesTable W k dest src n ++ (overlap dest src n ∷ [])
+
+unfoldable pub fillTable : ℕ → ℕ → ℕ → ℕ → List Line
+fillTable W k s n = tooLarge W k ∷ firstOutside (W * k) s n ∷ []
+
+unfoldable pub stringTable : ℕ → List ℕ → ℕ → List Line
+stringTable W ws s = tooLarge W (length ws) ∷ startOutside (W * length ws) s ∷ noZero (W * length ws) s (view W ws) ∷ []

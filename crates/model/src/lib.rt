@@ -1,0 +1,169 @@
+// What both cores share: the record of accesses, and the answer of a call.
+ghost use mathlib.Core.Path.{_≡_};
+ghost use mathlib.Core.List.{[], _∷_, zipWith};
+ghost use Prim.Native.Nat.{ℕ, _+_, _^_, _%_, _<_};
+ghost use lib.ListN.{set, replicate};
+ghost use Rattle.model.specs.Access.{load, store};
+ghost use Rattle.model.specs.Tally.{tally, joined, Summable, Joinable};
+ghost use Rattle.model.specs.Answers.{answered, replied, refused, numberOf, an-address, a-number, a-length, a-refusal};
+
+// How many loads of 1, 2, 4 and 8 bytes were made, then how many stores of 1, 2, 4 and 8 bytes.
+pub struct Counts {
+    pub numbers: [u64; 8],
+}
+
+// What a routine hands back of the accesses that it made: the record that `join` adds up.
+pub struct Work {
+    pub counts: Counts,
+}
+
+// No access.
+pub fn zero() -> Work
+    ensures { λ r. ⌜ r ≡ tally [] ⌝ }
+{
+    Work {
+        counts: Counts { numbers: [0; 8] },
+    }
+}
+
+// 0, 1, 2, 3 for 1, 2, 4, 8 bytes.
+pub fn width_code(width: usize) -> usize
+    requires { ⌜ 8 % width ≡ 0 ⌝ }
+    ensures { λ r. ⌜ (r < 4) × (2 ^ r ≡ width) ⌝ }
+{
+    match width {
+        1 => 0,
+        2 => 1,
+        4 => 2,
+        _ => 3,
+    }
+}
+
+// A one at a place of the array, which kind and width decide.
+fn one_at(place: usize) -> Work
+    requires { ⌜ place < 8 ⌝ }
+    ensures { λ r. ⌜ r .counts .numbers ≡ set (replicate 8 0) place 1 ⌝ }
+{
+    let mut numbers = [0u64; 8];
+    numbers[place] = 1;
+    Work {
+        counts: Counts { numbers },
+    }
+}
+
+// One load: for the routine that makes it.
+pub fn load_of(width: usize) -> Work
+    requires { ⌜ 8 % width ≡ 0 ⌝ }
+    ensures { λ r. ⌜ ((at : ℕ) → r ≡ tally (load width at ∷ [])) ⌝ }
+{
+    one_at(width_code(width))
+}
+
+// One store: for the routine that makes it.
+pub fn store_of(width: usize) -> Work
+    requires { ⌜ 8 % width ≡ 0 ⌝ }
+    ensures { λ r. ⌜ ((at : ℕ) → r ≡ tally (store width at ∷ [])) ⌝ }
+{
+    one_at(4 + width_code(width))
+}
+
+// The eight sums of two records' counts.
+fn sums(a: [u64; 8], b: [u64; 8]) -> [u64; 8]
+    requires { ⌜ Summable a b ⌝ }
+    ensures { λ r. ⌜ r ≡ zipWith _+_ a b ⌝ }
+{
+    let mut r = [0u64; 8];
+    let mut i = 0;
+    while i < 8 {
+        r[i] = a[i] + b[i];
+        i += 1;
+    }
+    r
+}
+
+// The record of what `a` records, and then what `b` does.
+pub fn join(a: Work, b: Work) -> Work
+    requires { ⌜ Joinable a b ⌝ }
+    ensures { λ r. ⌜ r ≡ joined a b ⌝ }
+{
+    let before = a.counts.numbers;
+    let after = b.counts.numbers;
+    let numbers = sums(before, after);
+    Work {
+        counts: Counts { numbers },
+    }
+}
+
+// Document 01's refusals, in the order of its table; `numberOf` gives the number of each.
+pub enum Refusal {
+    TooLarge,
+    FirstOutside,
+    SecondOutside,
+    Overlap,
+    NoZero,
+}
+
+pub enum Outcome {
+    Address(usize),
+    Number(i32),
+    Length(usize),
+    Refused(Refusal),
+}
+
+pub struct Answer {
+    pub outcome: Outcome,
+    pub counts: Counts,
+}
+
+impl Answer {
+    // Copy, move and fill: the destination given.
+    pub fn address(dest: usize, work: Work) -> Answer
+        ensures { λ r. ⌜ answered r ≡ replied (an-address dest) work ⌝ }
+    {
+        let counts = work.counts;
+        Answer {
+            outcome: Outcome::Address(dest),
+            counts,
+        }
+    }
+
+    // Compare and bcmp.
+    pub fn number(z: i32, work: Work) -> Answer
+        ensures { λ r. ⌜ answered r ≡ replied (a-number z) work ⌝ }
+    {
+        let counts = work.counts;
+        Answer {
+            outcome: Outcome::Number(z),
+            counts,
+        }
+    }
+
+    // String length.
+    pub fn length(n: usize, work: Work) -> Answer
+        ensures { λ r. ⌜ answered r ≡ replied (a-length n) work ⌝ }
+    {
+        let counts = work.counts;
+        Answer {
+            outcome: Outcome::Length(n),
+            counts,
+        }
+    }
+
+    // A refusal counts nothing.
+    pub fn refused(why: Refusal) -> Answer
+        ensures { λ r. ⌜ answered r ≡ refused (numberOf why) ⌝ }
+    {
+        Answer::refused_after(why, zero())
+    }
+
+    // But for the string refusal, which counts what it read.
+    pub fn refused_after(why: Refusal, work: Work) -> Answer
+        ensures { λ r. ⌜ answered r ≡ replied (a-refusal (numberOf why)) work ⌝ }
+    {
+        let counts = work.counts;
+        Answer {
+            outcome: Outcome::Refused(why),
+            counts,
+        }
+    }
+}
