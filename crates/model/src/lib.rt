@@ -5,7 +5,7 @@ ghost use Prim.Native.Nat.{ℕ, _+_, _^_, _%_, _<_};
 ghost use lib.ListN.{set, replicate};
 ghost use Rattle.model.specs.Access.{load, store};
 ghost use Rattle.model.specs.Tally.{tally, joined, Summable, Joinable};
-ghost use Rattle.model.specs.Answers.{answered, replied, refused, numberOf, an-address, a-number, a-length, a-refusal};
+ghost use Rattle.model.specs.Answers.{answered, replied, refused, saidOf, numberOf};
 
 // How many loads of 1, 2, 4 and 8 bytes were made, then how many stores of 1, 2, 4 and 8 bytes.
 pub struct Counts {
@@ -116,54 +116,18 @@ pub struct Answer {
 }
 
 impl Answer {
-    // Copy, move and fill: the destination given.
-    pub fn address(dest: usize, work: Work) -> Answer
-        ensures { λ r. ⌜ answered r ≡ replied (an-address dest) work ⌝ }
+    // The outcome of a call, with the counts of the work that it did.
+    pub fn new(outcome: Outcome, work: Work) -> Answer
+        ensures { λ r. ⌜ answered r ≡ replied (saidOf outcome) work ⌝ }
     {
         let counts = work.counts;
-        Answer {
-            outcome: Outcome::Address(dest),
-            counts,
-        }
+        Answer { outcome, counts }
     }
 
-    // Compare and bcmp.
-    pub fn number(z: i32, work: Work) -> Answer
-        ensures { λ r. ⌜ answered r ≡ replied (a-number z) work ⌝ }
-    {
-        let counts = work.counts;
-        Answer {
-            outcome: Outcome::Number(z),
-            counts,
-        }
-    }
-
-    // String length.
-    pub fn length(n: usize, work: Work) -> Answer
-        ensures { λ r. ⌜ answered r ≡ replied (a-length n) work ⌝ }
-    {
-        let counts = work.counts;
-        Answer {
-            outcome: Outcome::Length(n),
-            counts,
-        }
-    }
-
-    // A refusal counts nothing.
+    // A refusal counts nothing. (The string refusal, which counts what it read, is a `new` answer.)
     pub fn refused(why: Refusal) -> Answer
         ensures { λ r. ⌜ answered r ≡ refused (numberOf why) ⌝ }
     {
-        Answer::refused_after(why, zero())
-    }
-
-    // But for the string refusal, which counts what it read.
-    pub fn refused_after(why: Refusal, work: Work) -> Answer
-        ensures { λ r. ⌜ answered r ≡ replied (a-refusal (numberOf why)) work ⌝ }
-    {
-        let counts = work.counts;
-        Answer {
-            outcome: Outcome::Refused(why),
-            counts,
-        }
+        Answer::new(Outcome::Refused(why), zero())
     }
 }

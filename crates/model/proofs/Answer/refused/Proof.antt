@@ -2,7 +2,6 @@
 -- Assumes nothing.
 use mathlib.Core.Path.{ap, _∙_}
 use borrow.Author.Needs.{needs}
-use Rattle.model.specs.declared.Work.{Work}
 use Rattle.model.specs.Answers.{replied, a-refusal, numberOf}
 use Rattle.model.proofs.Answer.refused.Statement.{statement}
 use Rattle.model.proofs.Answer.refused.Tie as tie
@@ -10,13 +9,12 @@ use Rattle.model.proofs.Answer.refused.Tie as tie
 zero-requires : tie.Need-zero-requires
 zero-requires c κs = search needs
 
-refused-after-requires : tie.Need-refused-after-requires
-refused-after-requires c κs = search needs
+new-requires : tie.Need-new-requires
+new-requires c κs = search needs
 
 returns : tie.Need-returns
 returns c =
-    c .refused-after .ensures
-    ∙ ap (replied (a-refusal (numberOf (c .before .before .args .why)))) (c .before .zero .ensures)
+    c .new .ensures ∙ ap (replied (a-refusal (numberOf (c .before .before .args .why)))) (c .before .zero .ensures)
 
 pub refused-spec : {M : Type 1} → statement M
-refused-spec = tie.close (tie.spec zero-requires refused-after-requires returns)
+refused-spec = tie.close (tie.spec zero-requires new-requires returns)
