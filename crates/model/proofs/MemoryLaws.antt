@@ -2,8 +2,7 @@
 -- that packing what is viewed gives the words back.
 -- Assumes nothing.
 use mathlib.Core.Path.{_≡_, refl, sym, ap, ap₂, _∙_, fun-ext}
-use mathlib.Core.Bool.{Bool, true, false, cond, _&&_}
-use mathlib.Core.Logic.{_⊎_, inl, inr, ⊎-elim}
+use mathlib.Core.Logic.{⊎-elim}
 use mathlib.Core.List.{List, [], _∷_, _++_}
 use Prim.Native.Nat.{ℕ, zero, suc, _+_, _*_, _-_, _/_, _%_, _^_, _<_, _≤_}
 use native.Mathlib.Nat.{mul-add-div, div-eq-of-lt, mul-add-mod-self-left, mod-eq-of-lt, add-zero, pow-succ', mod-one, div-add-mod, mod-lt, div-lt-iff-lt-mul, mul-comm, eq-or-lt-of-le, le-of-suc-le-suc, mul-assoc, mul-add-div-right, mul-add-mod-self-right}

@@ -3,14 +3,14 @@
 use mathlib.Core.Path.{_≡_, refl, sym, subst}
 use mathlib.Core.Bool.{Bool, true, false, not, _&&_, _||_}
 use mathlib.Core.Logic.{⊎-elim}
-use mathlib.Core.List.{List, [], _∷_}
-use Prim.Native.Nat.{ℕ, zero, suc, _+_, _%_, _^_, _<_, _≤_}
+use mathlib.Core.List.{[], _∷_}
+use Prim.Native.Nat.{ℕ, zero, suc, _+_, _%_, _^_, _<_}
 use native.Mathlib.Nat.{eq-or-lt-of-le, le-of-suc-le-suc, le-of-dvd, dvd-of-mod-eq-zero}
 use native.Mathlib.Omega.{arith}
 use lib.Dec.{T, eqb, eqb→eq}
 use lib.ListN.{set, replicate}
 use borrow.Author.Tests.{eq-eqb, ne-eqb}
-use Rattle.model.specs.Access.{Access, load, store}
+use Rattle.model.specs.Access.{load, store}
 use Rattle.model.specs.Tally.{total, tally}
 
 -- A test that is computed to pass at every number below n passes at each of them.

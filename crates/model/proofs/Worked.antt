@@ -1,19 +1,20 @@
 -- Document 01's worked numbers, proved of the written meaning itself, by computation: one table under the single claim `worked`.
 -- Assumes nothing.
 use mathlib.Core.Path.{_≡_, refl}
-use mathlib.Core.Bool.{Bool, true, false}
-use mathlib.Core.List.{List, [], _∷_}
+use mathlib.Core.Bool.{true, false}
+use mathlib.Core.List.{List, [], _∷_, map}
 use Prim.Native.Nat.{ℕ, _+_, _*_, _-_, _^_}
 use lib.IntN.{pos, negsuc}
 use lib.ListN.{length, replicate}
-use Rattle.model.specs.Access.{Access, load, store}
+use Rattle.model.specs.declared.Refusal.the-variants.{TooLarge, FirstOutside, SecondOutside, Overlap, NoZero}
+use Rattle.model.specs.Access.{load, store}
 use Rattle.model.specs.Tally.{tally, total}
 use Rattle.model.specs.Lists.{upto, pairs, chunks, misaligned, wholeWords, phases, run, along, copyList, moveList, upward, stores, fillPhases, fillList, compareList, stringList}
-use Rattle.model.specs.Memory.{view, readLE, packed, over, mostWords}
+use Rattle.model.specs.Memory.{view, readLE, packed, over}
 use Rattle.model.specs.Meaning.{first, memcpy, memmove, memset, memcmp}
 use Rattle.model.specs.Perform.{State, perform, moving, filling}
 use Rattle.model.specs.Refusals.{checked, rangesTable, copyTable, fillTable, stringTable}
-use Rattle.model.specs.Answers.{Said, an-address, a-number, a-length, a-refusal, Reply, copyAnswer, moveAnswer, fillAnswer, compareAnswer, bcmpAnswer, stringAnswer, copyWords, moveWords, fillWords}
+use Rattle.model.specs.Answers.{Said, an-address, a-number, a-length, a-refusal, Reply, numberOf, copyAnswer, moveAnswer, fillAnswer, compareAnswer, bcmpAnswer, stringAnswer, copyWords, moveWords, fillWords}
 
 -- An outcome with its counts, as the document writes them: loads 1/2/4/8, stores 1/2/4/8.
 abbrev pub reply : Said → ℕ → ℕ → ℕ → ℕ → ℕ → ℕ → ℕ → ℕ → Reply
@@ -112,6 +113,8 @@ pub record Worked : Type 0 where
   pub string-2-not : stringAnswer 8 memory 127 ≡ reply (a-length 0) 1 0 0 0 0 0 0 0
   pub string-5 : stringAnswer 8 ones 3 ≡ reply (a-refusal 5) 5 0 0 0 0 0 0 0
   pub string-5-not : stringAnswer 8 ended 3 ≡ reply (a-length 4) 5 0 0 0 0 0 0 0
+  -- The document's number of each refusal of the code.
+  pub refusal-numbers : map numberOf (TooLarge ∷ FirstOutside ∷ SecondOutside ∷ Overlap ∷ NoZero ∷ []) ≡ 1 ∷ 2 ∷ 3 ∷ 4 ∷ 5 ∷ []
   -- The first line that holds is given; sums are exact; length 0 is accepted at M and not past it, also where M is 0.
   pub one-before-two : copyAnswer 8 8193 (2 ^ 64 - 1) 0 1 ≡ nothing (a-refusal 1)
   pub two-before-three : copyAnswer 8 16 128 128 1 ≡ nothing (a-refusal 2)
@@ -134,4 +137,86 @@ pub record Worked : Type 0 where
 
 pub worked : Worked
 unfolding perform upto pairs chunks misaligned wholeWords phases run along stores fillPhases fillList compareList stringList total tally view readLE packed over first memcpy memmove memset memcmp checked rangesTable copyTable fillTable stringTable copyAnswer moveAnswer fillAnswer compareAnswer bcmpAnswer stringAnswer copyWords moveWords fillWords
-worked = search
+worked =
+    record {
+      P1 = refl;
+      P2 = refl;
+      P3 = refl;
+      P3-list = refl;
+      P4 = refl;
+      P5 = refl;
+      P5-length = refl;
+      P5-bound = refl;
+      P6 = refl;
+      P6-forward = refl;
+      P7 = refl;
+      P7-backward = refl;
+      P8 = refl;
+      P8-backward = refl;
+      P9 = refl;
+      P9-forward = refl;
+      P10 = refl;
+      P11 = refl;
+      P12 = refl;
+      far-forward = refl;
+      P3-performed = refl;
+      P8-performed = refl;
+      P10-performed = refl;
+      copy-1 = refl;
+      copy-1-not = refl;
+      copy-2 = refl;
+      copy-2-not = refl;
+      copy-3 = refl;
+      copy-3-not = refl;
+      copy-4-above = refl;
+      copy-4-above-not = refl;
+      copy-4-below = refl;
+      copy-4-below-not = refl;
+      copy-4-one = refl;
+      copy-4-none = refl;
+      move-1 = refl;
+      move-1-not = refl;
+      move-2 = refl;
+      move-2-not = refl;
+      move-3 = refl;
+      move-3-not = refl;
+      fill-1 = refl;
+      fill-1-not = refl;
+      fill-2 = refl;
+      fill-2-not = refl;
+      compare-1 = refl;
+      compare-1-not = refl;
+      compare-2 = refl;
+      compare-2-not = refl;
+      compare-3 = refl;
+      compare-3-not = refl;
+      bcmp-1 = refl;
+      bcmp-1-not = refl;
+      bcmp-2 = refl;
+      bcmp-2-not = refl;
+      bcmp-3 = refl;
+      bcmp-3-not = refl;
+      string-1 = refl;
+      string-1-not = refl;
+      string-2-not = refl;
+      string-5 = refl;
+      string-5-not = refl;
+      refusal-numbers = refl;
+      one-before-two = refl;
+      two-before-three = refl;
+      three-before-four = refl;
+      exact-sum = refl;
+      last-address = refl;
+      empty-at-end = refl;
+      empty-past-end = refl;
+      empty-source-past-end = refl;
+      no-words = refl;
+      no-words-string = refl;
+      copied = refl;
+      moved = refl;
+      filled = refl;
+      filled-256 = refl;
+      refused-copy = refl;
+      refused-move = refl;
+      refused-fill = refl;
+    }

@@ -100,6 +100,7 @@ run up W d s n =
     cond (ltb n (threshold W)) (pairs up 1 d s n)
     (phases up W d s (head up W d) ((n - head up W d) / W) ((n - head up W d) % W))
 
+-- The same from the first addresses dest and src.
 unfoldable pub along : Bool → ℕ → ℕ → ℕ → ℕ → List Access
 along up W dest src n = run up W (cursor up dest n) (cursor up src n) n
 
