@@ -1,7 +1,9 @@
 pub mod TallyLaws
+pub mod FitLaws
 pub mod PerformLaws
 pub mod MemoryLaws
 pub mod MeaningLaws
+pub mod RefusalLaws
 pub mod AnswerLaws
 pub mod Widths
 pub mod Worked

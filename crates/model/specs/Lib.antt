@@ -1,5 +1,6 @@
 pub mod Memory
 pub mod Access
+pub mod Fit
 pub mod Tally
 pub mod Lists
 pub mod Perform

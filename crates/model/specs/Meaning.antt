@@ -28,8 +28,11 @@ first t (suc n) = let later = suc (first (λ i. t (suc i)) n) in cond (t 0) 0 la
 
 -- "The sign of a nonzero value returned [..] is determined by the sign of the difference between the values of the first pair of
 -- characters (both interpreted as unsigned char) that differ in the objects being compared." impls.rs returns that difference.
+abbrev pub unequal : ℕ → ℕ → (ℕ → ℕ) → ℕ → Bool
+unequal s1 s2 f i = not (eqb (f (s1 + i)) (f (s2 + i)))
+
 abbrev pub difference : ℕ → ℕ → ℕ → (ℕ → ℕ) → ℕ
-difference s1 s2 n f = first (λ i. not (eqb (f (s1 + i)) (f (s2 + i)))) n
+difference s1 s2 n f = first (unequal s1 s2 f) n
 
 abbrev pub differAt : ℕ → ℕ → ℕ → (ℕ → ℕ) → ℕ → ℤ
 differAt s1 s2 n f p = cond (ltb p n) (pos (f (s1 + p)) -ℤ pos (f (s2 + p))) (pos 0)
@@ -43,5 +46,8 @@ bcmp s1 s2 n f = memcmp s1 s2 n f
 
 -- "The strlen function returns the number of characters that precede the terminating null character." The memory ends, so the
 -- null character is looked for among the m characters from s; m is answered where there is none.
+abbrev pub isNull : ℕ → (ℕ → ℕ) → ℕ → Bool
+isNull s f i = eqb (f (s + i)) 0
+
 abbrev pub strlen : ℕ → ℕ → (ℕ → ℕ) → ℕ
-strlen s m f = first (λ i. eqb (f (s + i)) 0) m
+strlen s m f = first (isNull s f) m

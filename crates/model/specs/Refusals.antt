@@ -1,7 +1,7 @@
 -- Document 01, "Refusal numbers": the table, for each call.
 -- Assumes nothing.
 use Prim.Native.Nat.{ℕ, _+_, _*_, _-_}
-use mathlib.Core.Bool.{Bool, cond, _&&_}
+use mathlib.Core.Bool.{Bool, true, false, cond, _&&_}
 use mathlib.Core.List.{List, [], _∷_, _++_}
 use lib.Dec.{leb, ltb, eqb}
 use lib.ListN.{length}
@@ -17,6 +17,10 @@ pub record Line : Type 0 where
 unfoldable pub checked : {A : Type 0} → List Line → (ℕ → A) → A → A
 checked [] refused accepted = accepted
 checked (l ∷ ls) refused accepted = cond (l .holds) (refused (l .number)) (checked ls refused accepted)
+
+-- Accepted: no line holds.
+abbrev pub accepts : List Line → Bool
+accepts lines = checked lines (λ r. false) true
 
 -- 1, all calls: k > 8,192 (on a core of 8-byte words).
 abbrev pub tooLarge : ℕ → ℕ → Line

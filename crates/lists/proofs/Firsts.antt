@@ -1,0 +1,59 @@
+-- The place at which compare and string length stop exists, is unique, and fixes the list and so its cost.
+-- By induction on the number of places. Assumes nothing.
+use mathlib.Core.Path.{_≡_, refl, ap, _∙_}
+use mathlib.Core.Bool.{Bool, true, false, cond}
+use Prim.Native.Nat.{ℕ, zero, suc, _<_}
+use native.Mathlib.Decide.{decLt}
+use native.Mathlib.Nat.{le-of-suc-le-suc}
+use native.Mathlib.Omega.{arith}
+use Rattle.model.specs.Lists.{compareList, stringList}
+use Rattle.model.specs.Meaning.{first, unequal, difference, isNull, strlen}
+use Rattle.lists.specs.Places.{FirstAt}
+
+-- "The first difference", "the first zero": there is such a place, or n.
+pub first-exists : (t : ℕ → Bool) (n : ℕ) → FirstAt t n (first t n)
+unfolding first
+first-exists t zero = record { bound = omega arith; before = λ i l. absurd (omega arith); holds = λ l. absurd (omega arith) }
+first-exists t (suc n) = go (t 0) refl (first-exists (λ i. t (suc i)) n)
+  where
+    go : (b : Bool) → t 0 ≡ b → FirstAt (λ i. t (suc i)) n (first (λ i. t (suc i)) n)
+        → FirstAt t (suc n) (cond b 0 (suc (first (λ i. t (suc i)) n)))
+    go true e r = record { bound = omega arith; before = λ i l. absurd (omega arith); holds = λ l. e }
+    go false e r = record { bound = omega arith; before = earlier; holds = λ l. r .holds (le-of-suc-le-suc l) }
+      where
+        earlier : (i : ℕ) → i < suc (first (λ i. t (suc i)) n) → t i ≡ false
+        earlier zero l = e
+        earlier (suc i) l = r .before i (le-of-suc-le-suc l)
+
+not-both : (b : Bool) → b ≡ true → b ≡ false → ⊥
+not-both b p q = let clash : _≡_ {A = ℕ} 0 1 = cc in omega arith
+
+not-after : (t : ℕ → Bool) (n p q : ℕ) → FirstAt t n p → FirstAt t n q → p < q → ⊥
+not-after t n p q a b l = not-both (t p) (a .holds (omega arith)) (b .before p l)
+
+-- There is only one.
+pub first-unique : (t : ℕ → Bool) (n p q : ℕ) → FirstAt t n p → FirstAt t n q → p ≡ q
+first-unique t n p q a b = go (decLt p q) (decLt q p)
+  where
+    go : Dec (p < q) → Dec (q < p) → p ≡ q
+    go (yes l) m = absurd (not-after t n p q a b l)
+    go (no l) (yes m) = absurd (not-after t n q p b a m)
+    go (no l) (no m) = omega arith
+
+-- "Compare, bcmp and string length cost the same where the first difference or zero stands at the same place": in two memories f
+-- and g the lists are the same, and so are their counts.
+pub same-difference : (s1 s2 n p : ℕ) (f g : ℕ → ℕ) → FirstAt (unequal s1 s2 f) n p → FirstAt (unequal s1 s2 g) n p
+    → compareList s1 s2 n (difference s1 s2 n f) ≡ compareList s1 s2 n (difference s1 s2 n g)
+same-difference s1 s2 n p f g a b =
+    let place : difference s1 s2 n f ≡ difference s1 s2 n g =
+    first-unique (unequal s1 s2 f) n (difference s1 s2 n f) p (first-exists (unequal s1 s2 f) n) a
+    ∙ first-unique (unequal s1 s2 g) n p (difference s1 s2 n g) b (first-exists (unequal s1 s2 g) n) in
+    ap (λ (q : ℕ). compareList s1 s2 n q) place
+
+pub same-zero : (s m p : ℕ) (f g : ℕ → ℕ) → FirstAt (isNull s f) m p → FirstAt (isNull s g) m p
+    → stringList s m (strlen s m f) ≡ stringList s m (strlen s m g)
+same-zero s m p f g a b =
+    let place : strlen s m f ≡ strlen s m g =
+    first-unique (isNull s f) m (strlen s m f) p (first-exists (isNull s f) m) a
+    ∙ first-unique (isNull s g) m p (strlen s m g) b (first-exists (isNull s g) m) in
+    ap (λ (q : ℕ). stringList s m q) place

@@ -1,0 +1,16 @@
+pub mod Ranges
+pub mod Cursors
+pub mod Cores
+pub mod Blocks
+pub mod Walks
+pub mod Performing
+pub mod Partial
+pub mod Walked
+pub mod Filled
+pub mod Performed
+pub mod Covered
+pub mod Placed
+pub mod Lengths
+pub mod Bounds
+pub mod Firsts
+pub mod Measured
