@@ -50,7 +50,7 @@ fill-loads-none p s n x = block-never (loadsAt x) (λ w a. refl) (fill-block p s
 -- ---- compare and string length
 
 -- Turn by turn, a total grows by what the turn counts for.
-pub upto-total : (c : Access → ℕ) (f : ℕ → List Access) (sum : ℕ → ℕ) → sum 0 ≡ 0
+upto-total : (c : Access → ℕ) (f : ℕ → List Access) (sum : ℕ → ℕ) → sum 0 ≡ 0
     → ((i : ℕ) → sum (suc i) ≡ sum i + total c (f i)) → (n : ℕ) → total c (upto n f) ≡ sum n
 unfolding upto total
 upto-total c f sum p q zero = sym p
@@ -74,12 +74,13 @@ string-loads-once s m p x =
     upto-total (loadsAt x) (λ i. load 1 (s + i) ∷ []) (λ i. within s i x) (within-none s x) (λ i. omega (arith, one-more s i x))
     (min (suc p) m)
 
--- Both store nothing.
+-- Compare stores nothing.
 pub compare-stores-none : (a b n p x : ℕ) → total (storesAt x) (compareList a b n p) ≡ 0
 unfolding compareList total
 compare-stores-none a b n p x =
     upto-total (storesAt x) (λ i. load 1 (a + i) ∷ load 1 (b + i) ∷ []) (λ i. 0) refl (λ i. refl) (min (suc p) n)
 
+-- String length stores nothing.
 pub string-stores-none : (s m p x : ℕ) → total (storesAt x) (stringList s m p) ≡ 0
 unfolding stringList total
 string-stores-none s m p x = upto-total (storesAt x) (λ i. load 1 (s + i) ∷ []) (λ i. 0) refl (λ i. refl) (min (suc p) m)

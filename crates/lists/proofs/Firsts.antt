@@ -10,7 +10,7 @@ use Rattle.model.specs.Lists.{compareList, stringList}
 use Rattle.model.specs.Meaning.{first, unequal, difference, isNull, strlen}
 use Rattle.lists.specs.Places.{FirstAt}
 
--- "The first difference", "the first zero": there is such a place, or n.
+-- "The first difference", "the first zero": there is such a place, or it is n.
 pub first-exists : (t : ℕ → Bool) (n : ℕ) → FirstAt t n (first t n)
 unfolding first
 first-exists t zero = record { bound = omega arith; before = λ i l. absurd (omega arith); holds = λ l. absurd (omega arith) }
@@ -40,8 +40,8 @@ first-unique t n p q a b = go (decLt p q) (decLt q p)
     go (no l) (yes m) = absurd (not-after t n q p b a m)
     go (no l) (no m) = omega arith
 
--- "Compare, bcmp and string length cost the same where the first difference or zero stands at the same place": in two memories f
--- and g the lists are the same, and so are their counts.
+-- Compare and bcmp "count the same if the first difference [..] stands at the same place in both, or in neither": in two memories f
+-- and g the list is the same.
 pub same-difference : (s1 s2 n p : ℕ) (f g : ℕ → ℕ) → FirstAt (unequal s1 s2 f) n p → FirstAt (unequal s1 s2 g) n p
     → compareList s1 s2 n (difference s1 s2 n f) ≡ compareList s1 s2 n (difference s1 s2 n g)
 same-difference s1 s2 n p f g a b =
@@ -50,6 +50,7 @@ same-difference s1 s2 n p f g a b =
     ∙ first-unique (unequal s1 s2 g) n p (difference s1 s2 n g) b (first-exists (unequal s1 s2 g) n) in
     ap (λ (q : ℕ). compareList s1 s2 n q) place
 
+-- And string length if the first zero does.
 pub same-zero : (s m p : ℕ) (f g : ℕ → ℕ) → FirstAt (isNull s f) m p → FirstAt (isNull s g) m p
     → stringList s m (strlen s m f) ≡ stringList s m (strlen s m g)
 same-zero s m p f g a b =

@@ -16,7 +16,8 @@ use Rattle.lists.proofs.Cursors.{Room, room-less, next-chunk}
 use Rattle.lists.proofs.Blocks.{loads-performed}
 use Rattle.lists.proofs.Walks.{Walk, stays, loads, stored, both}
 
--- Going up, the destination begins at or below the source, or past its end; going down, the mirror of it.
+-- Where no store lands on a source byte that is still to be loaded: going up, the destination begins at or below the source, or past
+-- its end; going down, the mirror of it.
 pub data Safe (d s n : ℕ) : Bool → Type 0 where
   behind : d ≤ s → Safe d s n true
   clear-above : s + n ≤ d → Safe d s n true
@@ -59,17 +60,19 @@ module _ (up : Bool) (d s n : ℕ) (f : ℕ → ℕ) (safe : Safe d s n up) (q :
       a : ℕ
       a = chunk up (past up s l) m
 
+      kept : (x : ℕ) → chunk up s (l + m) ≤ x → x < chunk up s (l + m) + (l + m) → Outside a m x
+          → over a m (z .bytes) (z .held) x ≡ f x
+      kept x lo hi o =
+          let h = earlier up s n l m x r j o lo hi in
+          over-out a m (z .bytes) (z .held) x o ∙ e .held x (h .0) (h .1)
+
       go : (x : ℕ) → chunk up s (l + m) ≤ x → x < chunk up s (l + m) + (l + m) → Place a m x
           → over a m (z .bytes) (z .held) x ≡ f x
       go x lo hi (inside u v) =
           over-in a m (z .bytes) (z .held) x u v ∙ ap (λ (g : ℕ → ℕ). g x) (e .bytes)
           ∙ over-out (chunk up d k) k (λ x. f ((x + s) - d)) f x (unspoilt up d s n k l m x safe q r i j u v)
-      go x lo hi (below u) =
-          let h = earlier up s n l m x r j (before u) lo hi in
-          over-out a m (z .bytes) (z .held) x (before u) ∙ e .held x (h .0) (h .1)
-      go x lo hi (above u) =
-          let h = earlier up s n l m x r j (beyond u) lo hi in
-          over-out a m (z .bytes) (z .held) x (beyond u) ∙ e .held x (h .0) (h .1)
+      go x lo hi (below u) = kept x lo hi (before u)
+      go x lo hi (above u) = kept x lo hi (beyond u)
 
   wrote : (k l w : ℕ) (z : State) → k + w ≤ l → l ≤ n → Done up d s f k l z
       → Done up d s f (k + w) l (step (moving d s) (store w (chunk up (past up d k) w)) z)

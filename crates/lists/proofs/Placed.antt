@@ -24,14 +24,17 @@ use Rattle.lists.proofs.Filled.{fill-block}
 use Rattle.lists.proofs.Walked.{along-walk}
 use Rattle.lists.proofs.Walks.{walk-every}
 
--- A width that divides the word is 1, 2, 4 or 8, and at most the word.
 eight-divided : {W : ℕ} → Core W → (w : ℕ) → W % w ≡ 0 → 8 % w ≡ 0
 eight-divided eight w e = e
 eight-divided four w e = mod-eq-zero-of-dvd w (dvd-mul-right-of-dvd w (dvd-of-mod-eq-zero w e) 2)
 
+-- A width that divides the word is 1, 2, 4 or 8, and at most the word.
 pub widths : {W : ℕ} → Core W → (w : ℕ) → W % w ≡ 0 → (w ≤ W) × ((w ≡ 1) ⊎ ((w ≡ 2) ⊎ ((w ≡ 4) ⊎ (w ≡ 8))))
-widths {W} p w e = (le-of-dvd {m = w} {n = W} (core-some p) (dvd-of-mod-eq-zero w e), go (eqb w 1) refl (eqb w 2) refl (eqb w 4) refl)
+widths {W} p w e = (small, go (eqb w 1) refl (eqb w 2) refl (eqb w 4) refl)
   where
+    small : w ≤ W
+    small = le-of-dvd {m = w} {n = W} (core-some p) (dvd-of-mod-eq-zero w e)
+
     go : (a : Bool) → eqb w 1 ≡ a → (b : Bool) → eqb w 2 ≡ b → (c : Bool) → eqb w 4 ≡ c
         → (w ≡ 1) ⊎ ((w ≡ 2) ⊎ ((w ≡ 4) ⊎ (w ≡ 8)))
     go true h b i c j = inl (eqb-true w 1 h)
@@ -57,19 +60,19 @@ along-aligned p up dest src n = along-every p up dest src n (λ w a h lo hi. h) 
 pub fill-aligned : {W : ℕ} → Core W → (s n : ℕ) → Every (aligns W) (fillList W s n)
 fill-aligned p s n = block-every (fill-block p s n) (λ w a h lo hi. h)
 
--- Compare and string length: each access is of one byte, and so aligned.
-bytes-every : {P : Access → Type 0} (a b n p : ℕ) → ((i : ℕ) → i < n → P (load 1 (a + i)) × P (load 1 (b + i)))
+compare-every : {P : Access → Type 0} (a b n p : ℕ) → ((i : ℕ) → i < n → P (load 1 (a + i)) × P (load 1 (b + i)))
     → Every P (compareList a b n p)
 unfolding compareList
-bytes-every a b n p h =
+compare-every a b n p h =
     every-upto (min (suc p) n) (λ i. load 1 (a + i) ∷ load 1 (b + i) ∷ [])
     (λ i l. let k = h i (omega (arith, min-le-right (suc p) n)) in next (k .0) (next (k .1) none))
 
 byte : (W a : ℕ) → Aligned W 1 a
 byte W a = aligned (mod-one W) (mod-one a)
 
+-- Compare and bcmp: each access is of one byte, and so aligned.
 pub compare-aligned : (W a b n p : ℕ) → Every (aligns W) (compareList a b n p)
-compare-aligned W a b n p = bytes-every a b n p (λ i l. (byte W (a + i), byte W (b + i)))
+compare-aligned W a b n p = compare-every a b n p (λ i l. (byte W (a + i), byte W (b + i)))
 
 string-every : {P : Access → Type 0} (s m p : ℕ) → ((i : ℕ) → i < m → P (load 1 (s + i))) → Every P (stringList s m p)
 unfolding stringList
@@ -77,19 +80,20 @@ string-every s m p h =
     every-upto (min (suc p) m) (λ i. load 1 (s + i) ∷ [])
     (λ i l. next (h i (omega (arith, min-le-right (suc p) m))) none)
 
+-- String length: each access is of one byte, and so aligned.
 pub string-aligned : (W s m p : ℕ) → Every (aligns W) (stringList s m p)
 string-aligned W s m p = string-every s m p (λ i l. byte W (s + i))
 
 -- ---- inside
 
-fit : {W k w a n : ℕ} (r : ℕ) → Range W k r n → Aligned W w a → r ≤ a → a + w ≤ r + n → Fit W k w a
-fit r h p lo hi = record { few = h .few; aligned = p; inside = omega arith }
+fit-in : {W k w a n : ℕ} (r : ℕ) → Range W k r n → Aligned W w a → r ≤ a → a + w ≤ r + n → Fit W k w a
+fit-in r h p lo hi = record { few = h .few; aligned = p; inside = omega arith }
 
 -- Between ranges inside the memory every access of a copy or move is aligned and inside it.
 pub along-fits : {W : ℕ} → Core W → (up : Bool) (k dest src n : ℕ) → Range W k dest n → Range W k src n
     → Every (fits W k) (along up W dest src n)
 along-fits p up k dest src n d s =
-    along-every p up dest src n (λ w a h lo hi. fit src s h lo hi) (λ w a h lo hi. fit dest d h lo hi)
+    along-every p up dest src n (λ w a h lo hi. fit-in src s h lo hi) (λ w a h lo hi. fit-in dest d h lo hi)
 
 -- Every access of an accepted copy.
 pub copy-fits : {W : ℕ} → Core W → (k dest src n : ℕ) → accepts (copyTable W k dest src n) ≡ true
@@ -108,19 +112,19 @@ move-fits {W} p k dest src n e =
 -- Every access of an accepted fill.
 pub fill-fits : {W : ℕ} → Core W → (k s n : ℕ) → accepts (fillTable W k s n) ≡ true → Every (fits W k) (fillList W s n)
 fill-fits {W} p k s n e =
-    block-every (fill-block p s n) (λ w a h lo hi. fit s (fill-accepted W k s n e) h lo hi)
+    block-every (fill-block p s n) (λ w a h lo hi. fit-in s (fill-accepted W k s n e) h lo hi)
 
 -- Every access of an accepted compare or bcmp, wherever it stops.
 pub compare-fits : (W k a b n p : ℕ) → accepts (rangesTable W k a b n) ≡ true → Every (fits W k) (compareList a b n p)
 compare-fits W k a b n p e =
     let r = ranges-accepted W k a b n e in
-    bytes-every a b n p (λ i l. (
-      fit a (r .0) (byte W (a + i)) (omega arith) (omega arith),
-      fit b (r .1) (byte W (b + i)) (omega arith) (omega arith),
+    compare-every a b n p (λ i l. (
+      fit-in a (r .0) (byte W (a + i)) (omega arith) (omega arith),
+      fit-in b (r .1) (byte W (b + i)) (omega arith) (omega arith),
     ))
 
 -- Every access of a string length that refusals 1 and 2 let pass, wherever it stops, or finds no zero.
 pub string-fits : (W k s p : ℕ) → accepts (tooLarge W k ∷ startOutside (W * k) s ∷ []) ≡ true
     → Every (fits W k) (stringList s (W * k - s) p)
 string-fits W k s p e =
-    string-every s (W * k - s) p (λ i l. fit s (string-accepted W k s e) (byte W (s + i)) (omega arith) (omega arith))
+    string-every s (W * k - s) p (λ i l. fit-in s (string-accepted W k s e) (byte W (s + i)) (omega arith) (omega arith))

@@ -24,15 +24,18 @@ runAccesses up W d s n =
     let h = head up W d in
     cond (ltb n (threshold W)) (2 * n) (2 * h + wordAccesses W (past up s h % W) ((n - h) / W) + 2 * ((n - h) % W))
 
+-- A copy or move, from the first addresses.
 unfoldable pub accesses : Bool → ℕ → ℕ → ℕ → ℕ → ℕ
 accesses up W dest src n = runAccesses up W (cursor up dest n) (cursor up src n) n
 
+-- A fill: one for each byte; or the head, the words and the tail.
 unfoldable pub fillAccesses : ℕ → ℕ → ℕ → ℕ
 fillAccesses W s n =
     let h = head true W s in
     cond (ltb n (threshold W)) n (h + (n - h) / W + (n - h) % W)
 
--- How far half a word times the accesses may pass the length.
+-- For n of 16 or more, half a word times the accesses of a copy or move is at most n and this: 4 x length <= n + 110 on 8-byte words,
+-- 2 x length <= n + 22 on 4-byte words.
 abbrev pub slack : {W : ℕ} → Core W → ℕ
 slack eight = 110
 slack four = 22
