@@ -12,19 +12,19 @@ use lib.ListN.{length}
 use borrow.Author.Tests.{lt-ltb, le-ltb}
 use Rattle.model.specs.Lists.{cursor, past, threshold, head, along, fillList, compareList, stringList}
 use Rattle.model.proofs.Widths.{below}
-use Rattle.lists.specs.Sizes.{Core, eight, four, ones, wordAccesses, runAccesses, accesses, fillAccesses, slack}
+use Rattle.lists.specs.Sizes.{Core, eight-byte, four-byte, ones, wordAccesses, runAccesses, accesses, fillAccesses, slack}
 use Rattle.lists.proofs.Cores.{core-some, split}
 use Rattle.lists.proofs.Lengths.{along-length, fill-length, compare-length, string-length}
 
 -- How many accesses w words of a misaligned source take beyond two for each word.
 extra : {W : ℕ} → Core W → ℕ
-extra eight = 3
-extra four = 2
+extra eight-byte = 3
+extra four-byte = 2
 
 partials-bound : {W : ℕ} (p : Core W) (o : ℕ) → o < W → ones o + ones (W - o) ≤ 1 + extra p
 unfolding extra ones
-partials-bound eight o l = leb→le (ones o + ones (8 - o)) 4 (below (λ o. leb (ones o + ones (8 - o)) 4) 8 tt o l)
-partials-bound four o l = leb→le (ones o + ones (4 - o)) 3 (below (λ o. leb (ones o + ones (4 - o)) 3) 4 tt o l)
+partials-bound eight-byte o l = leb→le (ones o + ones (8 - o)) 4 (below (λ o. leb (ones o + ones (8 - o)) 4) 8 tt o l)
+partials-bound four-byte o l = leb→le (ones o + ones (4 - o)) 3 (below (λ o. leb (ones o + ones (4 - o)) 3) 4 tt o l)
 
 words-bound : {W : ℕ} (p : Core W) (o w : ℕ) → o < W → 0 < w → wordAccesses W o w ≤ 2 * w + extra p
 unfolding wordAccesses
@@ -53,18 +53,18 @@ long-length {W} p up dest src n l =
 pub along-bounded : {W : ℕ} (p : Core W) (up : Bool) (dest src n : ℕ) → 16 ≤ n
     → W / 2 * length (along up W dest src n) ≤ n + slack p
 unfolding extra
-along-bounded eight up dest src n l =
-    let parts = split eight up (cursor up dest n) n l in
-    omega (arith, long-length eight up dest src n l)
-along-bounded four up dest src n l =
-    let parts = split four up (cursor up dest n) n l in
-    omega (arith, long-length four up dest src n l)
+along-bounded eight-byte up dest src n l =
+    let parts = split eight-byte up (cursor up dest n) n l in
+    omega (arith, long-length eight-byte up dest src n l)
+along-bounded four-byte up dest src n l =
+    let parts = split four-byte up (cursor up dest n) n l in
+    omega (arith, long-length four-byte up dest src n l)
 
 -- Words are fewer than their bytes, however misaligned.
 words-few : {W : ℕ} (p : Core W) (w : ℕ) → 0 < w → 2 * w + extra p ≤ 2 * (W * w)
 unfolding extra
-words-few eight w l = omega arith
-words-few four w l = omega arith
+words-few eight-byte w l = omega arith
+words-few four-byte w l = omega arith
 
 -- Every list of a copy or move has at most 2 n accesses.
 pub along-few : {W : ℕ} → Core W → (up : Bool) (dest src n : ℕ) → length (along up W dest src n) ≤ 2 * n

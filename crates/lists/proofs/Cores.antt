@@ -1,29 +1,29 @@
 -- What both word sizes have in common: facts about remainders by the word, each settled at 8 and at 4, so that nothing else looks
 -- at the size.
 -- Assumes nothing.
-use mathlib.Core.Path.{_≡_, refl}
+use mathlib.Core.Path.{_≡_, refl, sym}
 use mathlib.Core.Bool.{Bool, true, false}
 use Prim.Native.Nat.{ℕ, _+_, _*_, _-_, _/_, _%_, _<_, _≤_}
-use native.Mathlib.Nat.{mod-lt, div-add-mod, le-max-left, le-div-iff-mul-le}
+use native.Mathlib.Nat.{mod-lt, mod-eq-of-lt, div-add-mod, le-max-left, le-div-iff-mul-le}
 use native.Mathlib.Omega.{arith}
 use Rattle.model.specs.Lists.{past, near, threshold, head}
-use Rattle.lists.specs.Sizes.{Core, eight, four}
+use Rattle.lists.specs.Sizes.{Core, eight-byte, four-byte}
 
 pub core-some : {W : ℕ} → Core W → 0 < W
-core-some eight = omega arith
-core-some four = omega arith
+core-some eight-byte = omega arith
+core-some four-byte = omega arith
 
 pub core-quarter : {W : ℕ} → Core W → W % 4 ≡ 0
-core-quarter eight = refl
-core-quarter four = refl
+core-quarter eight-byte = refl
+core-quarter four-byte = refl
 
 pub core-small : {W : ℕ} → Core W → W ≤ 8
-core-small eight = omega arith
-core-small four = omega arith
+core-small eight-byte = omega arith
+core-small four-byte = omega arith
 
 pub quarter : {W : ℕ} → Core W → (a : ℕ) → a % W ≡ 0 → a % 4 ≡ 0
-quarter eight a e = omega arith
-quarter four a e = e
+quarter eight-byte a e = omega arith
+quarter four-byte a e = e
 
 -- ---- head, words and tail
 
@@ -33,20 +33,21 @@ pub record Near (up : Bool) (W c m : ℕ) : Type 0 where
   pub boundary : past up c m % W ≡ 0
 
 pub head-near : {W : ℕ} → Core W → (up : Bool) (c : ℕ) → Near up W c (head up W c)
-head-near eight true c = record { small = omega arith; boundary = omega arith }
-head-near eight false c = record { small = omega arith; boundary = omega arith }
-head-near four true c = record { small = omega arith; boundary = omega arith }
-head-near four false c = record { small = omega arith; boundary = omega arith }
+head-near eight-byte true c = record { small = omega arith; boundary = omega arith }
+head-near eight-byte false c = record { small = omega arith; boundary = omega arith }
+head-near four-byte true c = record { small = omega arith; boundary = omega arith }
+head-near four-byte false c = record { small = omega arith; boundary = omega arith }
+
+-- Where a cursor stands inside a word, the first partial load takes what a head would.
+near-head : {W : ℕ} → Core W → (up : Bool) (c : ℕ) → (c % W ≡ 0 → ⊥) → near up W (c % W) ≡ head up W c
+near-head {W} p true c o = sym (mod-eq-of-lt (omega (arith, mod-lt c (core-some p))))
+near-head p false c o = refl
 
 pub first-near : {W : ℕ} → Core W → (up : Bool) (c : ℕ) → (c % W ≡ 0 → ⊥) → Near up W c (near up W (c % W))
-first-near eight true c o = record { small = omega arith; boundary = omega arith }
-first-near eight false c o = record { small = omega arith; boundary = omega arith }
-first-near four true c o = record { small = omega arith; boundary = omega arith }
-first-near four false c o = record { small = omega arith; boundary = omega arith }
+first-near p up c o = rw (near-head p up c o) (head-near p up c)
 
 pub first-some : {W : ℕ} → Core W → (up : Bool) (c : ℕ) → (c % W ≡ 0 → ⊥) → 0 < near up W (c % W)
-first-some eight true c o = omega arith
-first-some four true c o = omega arith
+first-some p true c o = omega (arith, mod-lt c (core-some p))
 first-some p false c o = omega arith
 
 -- At the threshold and above it n bytes are a head, some words and a tail.

@@ -8,6 +8,7 @@ use native.Mathlib.Nat.{le-of-suc-le-suc}
 use native.Mathlib.Omega.{arith}
 use Rattle.model.specs.Lists.{compareList, stringList}
 use Rattle.model.specs.Meaning.{first, unequal, difference, isNull, strlen}
+use Rattle.model.proofs.RefusalLaws.{not-both}
 use Rattle.lists.specs.Places.{FirstAt}
 
 -- "The first difference", "the first zero": there is such a place, or it is n.
@@ -24,9 +25,6 @@ first-exists t (suc n) = go (t 0) refl (first-exists (λ i. t (suc i)) n)
         earlier : (i : ℕ) → i < suc (first (λ i. t (suc i)) n) → t i ≡ false
         earlier zero l = e
         earlier (suc i) l = r .before i (le-of-suc-le-suc l)
-
-not-both : (b : Bool) → b ≡ true → b ≡ false → ⊥
-not-both b p q = let clash : _≡_ {A = ℕ} 0 1 = cc in omega arith
 
 not-after : (t : ℕ → Bool) (n p q : ℕ) → FirstAt t n p → FirstAt t n q → p < q → ⊥
 not-after t n p q a b l = not-both (t p) (a .holds (omega arith)) (b .before p l)

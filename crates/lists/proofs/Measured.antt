@@ -8,7 +8,7 @@ use Rattle.model.specs.Lists.{upto, pairs, chunks, misaligned, wholeWords, phas
 use Rattle.model.specs.Memory.{over}
 use Rattle.model.specs.Tally.{total}
 use Rattle.lists.specs.Cover.{within, loadsAt, storesAt}
-use Rattle.lists.specs.Sizes.{eight, four, ones, wordAccesses, runAccesses, accesses, fillAccesses, slack}
+use Rattle.lists.specs.Sizes.{eight-byte, four-byte, ones, wordAccesses, runAccesses, accesses, fillAccesses, slack}
 
 -- P3's ranges: the destination is 0 to 15, the source 33 to 48.
 abbrev around : List ℕ
@@ -24,8 +24,8 @@ pub record Measured : Type 0 where
   pub P8 : accesses false 8 9 8 16 ≡ 21
   pub P10 : fillAccesses 8 1 16 ≡ 9
   -- Both bounds are reached: by P5, and by a copy on the 4-byte core.
-  pub P5-bound : 4 * accesses true 8 1 40 30 ≡ 30 + slack eight
-  pub narrow-bound : 2 * accesses true 4 1 40 18 ≡ 18 + slack four
+  pub P5-bound : 4 * accesses true 8 1 40 30 ≡ 30 + slack eight-byte
+  pub narrow-bound : 2 * accesses true 4 1 40 18 ≡ 18 + slack four-byte
   pub P3-loads : map (λ x. total (loadsAt x) (copyList 8 0 33 16)) around
       ≡ 0 ∷ 0 ∷ 0 ∷ 0 ∷ 0 ∷ 1 ∷ 1 ∷ 1 ∷ 1 ∷ 1 ∷ 0 ∷ []
   pub P3-stores : map (λ x. total (storesAt x) (copyList 8 0 33 16)) around

@@ -14,6 +14,7 @@ use Rattle.model.specs.Memory.{over, byteOf}
 use Rattle.model.specs.Perform.{State, perform, moving, filling}
 use Rattle.model.specs.Refusals.{overlap}
 use Rattle.model.proofs.MeaningLaws.{memmove-memcpy}
+use Rattle.model.proofs.RefusalLaws.{not-both}
 use Rattle.lists.specs.Sizes.{Core}
 use Rattle.lists.proofs.Ranges.{over-none}
 use Rattle.lists.proofs.Cursors.{cursor-room, cursor-start, cursor-gap}
@@ -81,9 +82,9 @@ apart-safe dest src n e = go (decLt src dest) (decLt dest (src + n))
     go (no l) m = behind (omega arith)
     go (yes l) (no m) = clear-above (omega arith)
     go (yes l) (yes m) =
-        let all : true ≡ false = rw (lt-ltb 0 n (omega arith), lt-ltb dest (src + n) m, lt-ltb src (dest + n) (omega arith)) at e in
-        let clash : _≡_ {A = ℕ} 0 1 = cc in
-        absurd (omega arith)
+        let all : overlap dest src n .holds ≡ true =
+        rw (lt-ltb 0 n (omega arith), lt-ltb dest (src + n) m, lt-ltb src (dest + n) (omega arith)) in
+        absurd (not-both (overlap dest src n .holds) all e)
 
 -- Performing the list of a copy between ranges that do not overlap leaves C's memcpy.
 pub copy-performed : {W : ℕ} → Core W → (dest src n : ℕ) → overlap dest src n .holds ≡ false → (z : State)

@@ -11,7 +11,7 @@ use Rattle.model.specs.Memory.{over}
 use Rattle.model.specs.Perform.{State, step, perform, moving}
 use Rattle.model.proofs.MemoryLaws.{over-in, over-cong, Place, below, inside, above, place}
 use Rattle.model.proofs.PerformLaws.{perform-append}
-use Rattle.lists.proofs.Ranges.{Outside, before, beyond, over-out, over-adjacent}
+use Rattle.lists.proofs.Ranges.{Outside, before, beyond, over-out, over-not, over-adjacent}
 use Rattle.lists.proofs.Cursors.{Room, room-less, next-chunk}
 use Rattle.lists.proofs.Blocks.{loads-performed}
 use Rattle.lists.proofs.Walks.{Walk, stays, loads, stored, both}
@@ -24,13 +24,13 @@ pub data Safe (d s n : ℕ) : Bool → Type 0 where
   ahead : s ≤ d → Safe d s n false
   clear-below : d + n ≤ s → Safe d s n false
 
--- The k bytes stored leave the next m bytes of the source alone.
+-- No byte is among the k stored and among the next m of the source.
 unspoilt : (up : Bool) (d s n k l m x : ℕ) → Safe d s n up → Room up d n → Room up s n → k ≤ l → l + m ≤ n
-    → chunk up (past up s l) m ≤ x → x < chunk up (past up s l) m + m → Outside (chunk up d k) k x
-unspoilt true d s n k l m x (behind h) q r i j lo hi = beyond (omega arith)
-unspoilt true d s n k l m x (clear-above h) q r i j lo hi = before (omega arith)
-unspoilt false d s n k l m x (ahead h) q r i j lo hi = before (omega arith)
-unspoilt false d s n k l m x (clear-below h) q r i j lo hi = beyond (omega arith)
+    → chunk up (past up s l) m ≤ x → x < chunk up (past up s l) m + m → chunk up d k ≤ x → x < chunk up d k + k → ⊥
+unspoilt true d s n k l m x (behind h) q r i j lo hi from to = omega arith
+unspoilt true d s n k l m x (clear-above h) q r i j lo hi from to = omega arith
+unspoilt false d s n k l m x (ahead h) q r i j lo hi from to = omega arith
+unspoilt false d s n k l m x (clear-below h) q r i j lo hi from to = omega arith
 
 -- Of the l + m bytes loaded, one that is not among the last m is among the first l.
 earlier : (up : Bool) (s n l m x : ℕ) → Room up s n → l + m ≤ n → Outside (chunk up (past up s l) m) m x
@@ -70,7 +70,7 @@ module _ (up : Bool) (d s n : ℕ) (f : ℕ → ℕ) (safe : Safe d s n up) (q :
           → over a m (z .bytes) (z .held) x ≡ f x
       go x lo hi (inside u v) =
           over-in a m (z .bytes) (z .held) x u v ∙ ap (λ (g : ℕ → ℕ). g x) (e .bytes)
-          ∙ over-out (chunk up d k) k (λ x. f ((x + s) - d)) f x (unspoilt up d s n k l m x safe q r i j u v)
+          ∙ over-not (chunk up d k) k (λ x. f ((x + s) - d)) f x (unspoilt up d s n k l m x safe q r i j u v)
       go x lo hi (below u) = kept x lo hi (before u)
       go x lo hi (above u) = kept x lo hi (beyond u)
 

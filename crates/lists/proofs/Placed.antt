@@ -12,11 +12,11 @@ use borrow.Author.Tests.{eqb-true, eqb-false}
 use Rattle.model.specs.Access.{Access, load, store}
 use Rattle.model.specs.Fit.{Aligned, Fit, Range, aligns, fits, Every, none, next}
 use Rattle.model.specs.Lists.{along, copyList, upward, moveList, fillList, compareList, stringList}
-use Rattle.model.specs.Refusals.{accepts, tooLarge, startOutside, rangesTable, copyTable, fillTable}
+use Rattle.model.specs.Refusals.{accepts, rangesTable, copyTable, fillTable, startTable}
 use Rattle.model.proofs.FitLaws.{every-upto}
 use Rattle.model.proofs.Widths.{last-width}
 use Rattle.model.proofs.RefusalLaws.{ranges-accepted, fill-accepted, string-accepted, copy-accepted}
-use Rattle.lists.specs.Sizes.{Core, eight, four}
+use Rattle.lists.specs.Sizes.{Core, eight-byte, four-byte}
 use Rattle.lists.proofs.Cores.{core-some}
 use Rattle.lists.proofs.Cursors.{cursor-room, cursor-start}
 use Rattle.lists.proofs.Blocks.{aligned, block-every}
@@ -25,8 +25,8 @@ use Rattle.lists.proofs.Walked.{along-walk}
 use Rattle.lists.proofs.Walks.{walk-every}
 
 eight-divided : {W : ℕ} → Core W → (w : ℕ) → W % w ≡ 0 → 8 % w ≡ 0
-eight-divided eight w e = e
-eight-divided four w e = mod-eq-zero-of-dvd w (dvd-mul-right-of-dvd w (dvd-of-mod-eq-zero w e) 2)
+eight-divided eight-byte w e = e
+eight-divided four-byte w e = mod-eq-zero-of-dvd w (dvd-mul-right-of-dvd w (dvd-of-mod-eq-zero w e) 2)
 
 -- A width that divides the word is 1, 2, 4 or 8, and at most the word.
 pub widths : {W : ℕ} → Core W → (w : ℕ) → W % w ≡ 0 → (w ≤ W) × ((w ≡ 1) ⊎ ((w ≡ 2) ⊎ ((w ≡ 4) ⊎ (w ≡ 8))))
@@ -87,7 +87,7 @@ string-aligned W s m p = string-every s m p (λ i l. byte W (s + i))
 -- ---- inside
 
 fit-in : {W k w a n : ℕ} (r : ℕ) → Range W k r n → Aligned W w a → r ≤ a → a + w ≤ r + n → Fit W k w a
-fit-in r h p lo hi = record { few = h .few; aligned = p; inside = omega arith }
+fit-in r h p lo hi = record { aligned = p; range = record { few = h .few; inside = omega arith } }
 
 -- Between ranges inside the memory every access of a copy or move is aligned and inside it.
 pub along-fits : {W : ℕ} → Core W → (up : Bool) (k dest src n : ℕ) → Range W k dest n → Range W k src n
@@ -124,7 +124,7 @@ compare-fits W k a b n p e =
     ))
 
 -- Every access of a string length that refusals 1 and 2 let pass, wherever it stops, or finds no zero.
-pub string-fits : (W k s p : ℕ) → accepts (tooLarge W k ∷ startOutside (W * k) s ∷ []) ≡ true
+pub string-fits : (W k s p : ℕ) → accepts (startTable W k s) ≡ true
     → Every (fits W k) (stringList s (W * k - s) p)
 string-fits W k s p e =
     string-every s (W * k - s) p (λ i l. fit-in s (string-accepted W k s e) (byte W (s + i)) (omega arith) (omega arith))

@@ -18,13 +18,16 @@ pub over-out : (a n : ℕ) (g f : ℕ → ℕ) (x : ℕ) → Outside a n x → o
 over-out a n g f x (before l) = over-below a n g f x l
 over-out a n g f x (beyond l) = over-above a n g f x l
 
-pub over-none : (a : ℕ) (g f : ℕ → ℕ) → over a 0 g f ≡ f
-over-none a g f = fun-ext (λ x. go x (place a 0 x))
+pub over-not : (a n : ℕ) (g f : ℕ → ℕ) (x : ℕ) → (a ≤ x → x < a + n → ⊥) → over a n g f x ≡ f x
+over-not a n g f x h = go (place a n x)
   where
-    go : (x : ℕ) → Place a 0 x → over a 0 g f x ≡ f x
-    go x (below l) = over-below a 0 g f x l
-    go x (inside l m) = absurd (omega arith)
-    go x (above l) = over-above a 0 g f x l
+    go : Place a n x → over a n g f x ≡ f x
+    go (below l) = over-below a n g f x l
+    go (inside l m) = absurd (h l m)
+    go (above l) = over-above a n g f x l
+
+pub over-none : (a : ℕ) (g f : ℕ → ℕ) → over a 0 g f ≡ f
+over-none a g f = fun-ext (λ x. over-not a 0 g f x (λ l m. omega arith))
 
 within-in : (a n x : ℕ) → a ≤ x → x < a + n → within a n x ≡ 1
 unfolding within

@@ -7,8 +7,8 @@ use Rattle.model.specs.Lists.{cursor, past, threshold, head}
 
 -- The word sizes that a core may have.
 pub data Core : ℕ → Type 0 where
-  eight : Core 8
-  four : Core 4
+  eight-byte : Core 8
+  four-byte : Core 4
 
 -- A partial load of m bytes makes one access for each binary digit 1 of m, which is below 8.
 unfoldable pub ones : ℕ → ℕ
@@ -34,8 +34,8 @@ fillAccesses W s n =
     let h = head true W s in
     cond (ltb n (threshold W)) n (h + (n - h) / W + (n - h) % W)
 
--- For n of 16 or more, half a word times the accesses of a copy or move is at most n and this: 4 x length <= n + 110 on 8-byte words,
+-- For n of 16 or more, half a word times the accesses of a copy or move is at most n plus this: 4 x length <= n + 110 on 8-byte words,
 -- 2 x length <= n + 22 on 4-byte words.
 abbrev pub slack : {W : ℕ} → Core W → ℕ
-slack eight = 110
-slack four = 22
+slack eight-byte = 110
+slack four-byte = 22

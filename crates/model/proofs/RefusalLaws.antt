@@ -8,11 +8,15 @@ use native.Mathlib.Omega.{arith}
 use borrow.Author.Tests.{ltb-false, leb-false}
 use Rattle.model.specs.Fit.{Range}
 use Rattle.model.specs.Memory.{mostWords}
-use Rattle.model.specs.Refusals.{Line, checked, accepts, tooLarge, startOutside, overlap, rangesTable, copyTable, fillTable}
+use Rattle.model.specs.Refusals.{Line, checked, accepts, tooLarge, overlap, rangesTable, copyTable, fillTable, startTable}
+
+-- No test both passes and fails.
+pub not-both : (b : Bool) → b ≡ true → b ≡ false → ⊥
+not-both b p q = let clash : _≡_ {A = ℕ} 0 1 = cc in omega arith
 
 refused-not : (b t : Bool) → cond b false t ≡ true → (b ≡ false) × (t ≡ true)
 refused-not false t e = (refl, e)
-refused-not true t e = let clash : _≡_ {A = ℕ} 0 1 = cc in absurd (omega arith)
+refused-not true t e = absurd (not-both false e refl)
 
 -- The first line does not hold, and the others accept.
 pub accepted-line : (l : Line) (ls : List Line) → accepts (l ∷ ls) ≡ true → (l .holds ≡ false) × (accepts ls ≡ true)
@@ -46,8 +50,8 @@ fill-accepted W k s n e =
     range W k s n (few .0) (ltb-false (W * k) (s + n) (refused-not _ _ (few .1) .0))
 
 -- The bytes from a string's start to the end of the memory.
-pub string-accepted : (W k s : ℕ) → accepts (tooLarge W k ∷ startOutside (W * k) s ∷ []) ≡ true → Range W k s (W * k - s)
-unfolding checked
+pub string-accepted : (W k s : ℕ) → accepts (startTable W k s) ≡ true → Range W k s (W * k - s)
+unfolding startTable checked
 string-accepted W k s e =
     let few = refused-not _ _ e in
     let start = leb-false (W * k) s (refused-not _ _ (few .1) .0) in

@@ -13,7 +13,7 @@ use Rattle.model.specs.Lists.{upto, pairs, chunks, misaligned, wholeWord
 use Rattle.model.specs.Memory.{view, readLE, packed, over}
 use Rattle.model.specs.Meaning.{first, memcpy, memmove, memset, memcmp}
 use Rattle.model.specs.Perform.{State, perform, moving, filling}
-use Rattle.model.specs.Refusals.{checked, rangesTable, copyTable, fillTable, stringTable}
+use Rattle.model.specs.Refusals.{checked, rangesTable, copyTable, fillTable, startTable, stringTable}
 use Rattle.model.specs.Answers.{Said, an-address, a-number, a-length, a-refusal, Reply, numberOf, copyAnswer, moveAnswer, fillAnswer, compareAnswer, bcmpAnswer, stringAnswer, copyWords, moveWords, fillWords}
 
 -- An outcome with its counts, as the document writes them: loads 1/2/4/8, stores 1/2/4/8.
@@ -136,7 +136,7 @@ pub record Worked : Type 0 where
   pub refused-fill : fillWords 8 ones 1 (pos 0) 8 ≡ ones
 
 pub worked : Worked
-unfolding perform upto pairs chunks misaligned wholeWords phases run along stores fillPhases fillList compareList stringList total tally view readLE packed over first memcpy memmove memset memcmp checked rangesTable copyTable fillTable stringTable copyAnswer moveAnswer fillAnswer compareAnswer bcmpAnswer stringAnswer copyWords moveWords fillWords
+unfolding perform upto pairs chunks misaligned wholeWords phases run along stores fillPhases fillList compareList stringList total tally view readLE packed over first memcpy memmove memset memcmp checked rangesTable copyTable fillTable startTable stringTable copyAnswer moveAnswer fillAnswer compareAnswer bcmpAnswer stringAnswer copyWords moveWords fillWords
 worked =
     record {
       P1 = refl;

@@ -12,17 +12,17 @@ pub record Aligned (W width addr : ℕ) : Type 0 where
   pub divides : W % width ≡ 0
   pub multiple : addr % width ≡ 0
 
--- Aligned, and inside k words, which are no more than may be lent: all that a load or a store asks.
-pub record Fit (W k width addr : ℕ) : Type 0 where
-  pub few : k ≤ mostWords W
-  pub aligned : Aligned W width addr
-  pub inside : addr + width ≤ W * k
-
 -- The n bytes from an address lie inside k words, which are no more than may be lent.
 pub record Range (W k addr n : ℕ) : Type 0 where
   pub few : k ≤ mostWords W
   pub inside : addr + n ≤ W * k
 
+-- Aligned, and inside: all that a load or a store asks.
+pub record Fit (W k width addr : ℕ) : Type 0 where
+  pub aligned : Aligned W width addr
+  pub range : Range W k addr width
+
+-- The same of an access, a load or a store.
 abbrev pub aligns : ℕ → Access → Type 0
 aligns W (load w a) = Aligned W w a
 aligns W (store w a) = Aligned W w a

@@ -56,5 +56,9 @@ copyTable W k dest src n = rangesTable W k dest src n ++ (overlap dest src n ∷
 unfoldable pub fillTable : ℕ → ℕ → ℕ → ℕ → List Line
 fillTable W k s n = tooLarge W k ∷ firstOutside (W * k) s n ∷ []
 
+-- String length: what is checked before a byte is read, and then 5.
+unfoldable pub startTable : ℕ → ℕ → ℕ → List Line
+startTable W k s = tooLarge W k ∷ startOutside (W * k) s ∷ []
+
 unfoldable pub stringTable : ℕ → List ℕ → ℕ → List Line
-stringTable W ws s = tooLarge W (length ws) ∷ startOutside (W * length ws) s ∷ noZero (W * length ws) s (view W ws) ∷ []
+stringTable W ws s = startTable W (length ws) s ++ (noZero (W * length ws) s (view W ws) ∷ [])
