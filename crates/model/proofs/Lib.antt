@@ -1,7 +1,11 @@
 pub mod TallyLaws
 pub mod FitLaws
 pub mod PerformLaws
+pub mod ByteLaws
 pub mod MemoryLaws
+pub mod WordLaws
+pub mod ShiftLaws
+pub mod RanLaws
 pub mod MeaningLaws
 pub mod RefusalLaws
 pub mod AnswerLaws

@@ -1,19 +1,20 @@
--- The lent memory's laws: what `over` gives inside and outside its range; that the words with given bytes have these bytes, and
--- that packing what is viewed gives the words back.
+-- The lent memory's laws: what `over` gives inside and outside its range; the number that some bytes of a word make, and what a
+-- changed word changes; that the words with given bytes have these bytes, and that packing what is viewed gives the words back.
 -- Assumes nothing.
-use mathlib.Core.Path.{_≡_, refl, sym, ap, ap₂, _∙_, fun-ext}
+use mathlib.Core.Path.{_≡_, refl, sym, ap, _∙_, fun-ext}
 use mathlib.Core.Logic.{⊎-elim}
 use mathlib.Core.List.{List, [], _∷_, _++_}
 use Prim.Native.Nat.{ℕ, zero, suc, _+_, _*_, _-_, _/_, _%_, _^_, _<_, _≤_}
-use native.Mathlib.Nat.{mul-add-div, div-eq-of-lt, mul-add-mod-self-left, mod-eq-of-lt, add-zero, pow-succ', mod-one, div-add-mod, mod-lt, div-lt-iff-lt-mul, mul-comm, eq-or-lt-of-le, le-of-suc-le-suc, mul-assoc, mul-add-div-right, mul-add-mod-self-right}
+use native.Mathlib.Nat.{mul-add-div, div-eq-of-lt, mul-add-mod-self-left, mod-eq-of-lt, add-zero, add-assoc, add-mul, div-one, div-add-mod, div-add-mod', mod-lt, div-lt-iff-lt-mul, le-div-iff-mul-le, mul-comm, suc-mul, eq-or-lt-of-le, le-of-suc-le-suc, mod-le, mul-le-mul-right}
 use native.Mathlib.Decide.{decLt}
 use native.Mathlib.Omega.{arith}
-use lib.Arith.{mod-mul, digits-lt, digits-div}
+use lib.Arith.{digits-lt}
 use lib.Pow.{pow-add}
-use lib.ListN.{length, getD, length-append, List·getD-append}
-use lib.Seq.{ext-getD, getD-at}
+use lib.ListN.{length, getD, set, length-append, List·getD-append}
+use lib.Seq.{ext-getD, getD-at, getD-set-same, getD-set-other}
 use borrow.Author.Tests.{le-leb, lt-leb, lt-ltb, le-ltb}
-use Rattle.model.specs.Memory.{view, readLE, packed, over}
+use Rattle.model.specs.Memory.{byte, view, readLE, packed, over, laid}
+use Rattle.model.proofs.ByteLaws.{byte-div, byte-high, byte-low, byte-lt, byte-mod, pow-256, readLE-byte, readLE-bytes, readLE-cong}
 
 -- ---- over
 
@@ -55,48 +56,70 @@ over-cong a n g g' f h = fun-ext (λ x. go x (place a n x))
 
 -- ---- the bytes of a number
 
-pub pow-256 : (n : ℕ) → 0 < 256 ^ n
-pow-256 zero = omega arith
-pow-256 (suc n) = rw (pow-succ' 256 n) (omega (arith, pow-256 n))
+-- Taking out the n bytes of v from byte o on, and putting in the lowest n bytes of x.
+abbrev pub splice : ℕ → ℕ → ℕ → ℕ → ℕ
+splice v o n x = v - v / 256 ^ o % 256 ^ n * 256 ^ o + x % 256 ^ n * 256 ^ o
 
-pub readLE-lt : (f : ℕ → ℕ) → ((x : ℕ) → f x < 256) → (a n : ℕ) → readLE f a n < 256 ^ n
-unfolding readLE
-readLE-lt f h a zero = omega arith
-readLE-lt f h a (suc n) = rw (pow-succ' 256 n) (digits-lt (h (a + n)) (readLE-lt f h a n))
+pub taken-le : (v o n : ℕ) → v / 256 ^ o % 256 ^ n * 256 ^ o ≤ v
+taken-le v o n =
+    omega (arith, div-add-mod' v (256 ^ o), mul-le-mul-right (256 ^ o) (mod-le (v / 256 ^ o) (256 ^ n)))
 
--- Digits above the one that is read do not show.
-high-digits : (x m j r : ℕ) → (x * 256 ^ (m + suc j) + r) / 256 ^ j % 256 ≡ r / 256 ^ j % 256
-high-digits x m j r =
-    ap (λ (y : ℕ). (y + r) / 256 ^ j % 256) regrouped
-    ∙ ap (λ (y : ℕ). y % 256) (mul-add-div-right (pow-256 j) (x * 256 ^ m * 256) r)
-    ∙ mul-add-mod-self-right (x * 256 ^ m) 256 (r / 256 ^ j)
+-- What is above byte o afterwards.
+abbrev upper : ℕ → ℕ → ℕ → ℕ → ℕ
+upper v o n x = v / 256 ^ o / 256 ^ n * 256 ^ n + x % 256 ^ n
+
+regrouped : (v o n x : ℕ) → splice v o n x ≡ upper v o n x * 256 ^ o + v % 256 ^ o
+regrouped v o n x =
+    let q : ℕ = v / 256 ^ o in
+    omega (
+      arith,
+      div-add-mod' v (256 ^ o),
+      ap (λ (y : ℕ). y * 256 ^ o) (div-add-mod' q (256 ^ n)),
+      add-mul (q / 256 ^ n * 256 ^ n) (q % 256 ^ n) (256 ^ o),
+      add-mul (q / 256 ^ n * 256 ^ n) (x % 256 ^ n) (256 ^ o),
+    )
+
+pub splice-lt : (W v o n x : ℕ) → o + n ≤ W → v < 256 ^ W → splice v o n x < 256 ^ W
+splice-lt W v o n x l h = rw (regrouped v o n x, whole) (digits-lt (digits-lt above (mod-lt x (pow-256 n))) (mod-lt v (pow-256 o)))
   where
-    regrouped : x * 256 ^ (m + suc j) ≡ x * 256 ^ m * 256 * 256 ^ j
-    regrouped = rw (pow-add 256 m (suc j), pow-succ' 256 j) (simp mul-assoc)
+    whole : 256 ^ W ≡ 256 ^ (W - o - n) * 256 ^ n * 256 ^ o
+    whole =
+        let e : W ≡ (W - o - n) + n + o = omega arith in
+        ap (λ (y : ℕ). 256 ^ y) e ∙ rw (pow-add 256 ((W - o - n) + n) o, pow-add 256 (W - o - n) n)
 
-pub readLE-byte : (f : ℕ → ℕ) → ((x : ℕ) → f x < 256) → (a n j : ℕ) → j < n
-    → readLE f a n / 256 ^ j % 256 ≡ f (a + j)
-unfolding readLE
-readLE-byte f h a zero j l = absurd (omega arith)
-readLE-byte f h a (suc n) j l =
-    ⊎-elim top (λ m. lower m ∙ readLE-byte f h a n j m) (eq-or-lt-of-le (le-of-suc-le-suc l))
+    above : v / 256 ^ o / 256 ^ n < 256 ^ (W - o - n)
+    above = div-lt-iff-lt-mul (pow-256 n) .1 (div-lt-iff-lt-mul (pow-256 o) .1 (rw (← whole) h))
+
+pub spliced : (v o n x : ℕ) → byte (splice v o n x) ≡ over o n (laid x o) (byte v)
+spliced v o n x = ap byte (regrouped v o n x) ∙ fun-ext (λ j. go j (place o n j))
   where
-    top : j ≡ n → (f (a + n) * 256 ^ n + readLE f a n) / 256 ^ j % 256 ≡ f (a + j)
-    top e = rw e (ap (λ (y : ℕ). y % 256) (digits-div (f (a + n)) (readLE-lt f h a n)) ∙ mod-eq-of-lt (h (a + n)))
-
-    lower : j < n → (f (a + n) * 256 ^ n + readLE f a n) / 256 ^ j % 256 ≡ readLE f a n / 256 ^ j % 256
-    lower m =
-        let e : n ≡ (n - suc j) + suc j = omega arith in
-        ap (λ (k : ℕ). (f (a + n) * 256 ^ k + readLE f a n) / 256 ^ j % 256) e
-        ∙ high-digits (f (a + n)) (n - suc j) j (readLE f a n)
+    go : (j : ℕ) → Place o n j → byte (upper v o n x * 256 ^ o + v % 256 ^ o) j ≡ over o n (laid x o) (byte v) j
+    go j (below l) =
+        byte-low (upper v o n x) o (v % 256 ^ o) j l ∙ sym (byte-mod v o j l) ∙ sym (over-below o n (laid x o) (byte v) j l)
+    go j (inside l m) =
+        let i : ℕ = j - o in
+        let e : j ≡ o + i = omega arith in
+        let k : i < n = omega arith in
+        ap (byte (upper v o n x * 256 ^ o + v % 256 ^ o)) e
+        ∙ byte-high (upper v o n x) o (v % 256 ^ o) i (mod-lt v (pow-256 o))
+        ∙ byte-low (v / 256 ^ o / 256 ^ n) n (x % 256 ^ n) i k ∙ sym (byte-mod x n i k)
+        ∙ sym (over-in o n (laid x o) (byte v) j l m)
+    go j (above l) =
+        let i : ℕ = j - (o + n) in
+        let e : j ≡ o + (n + i) = omega arith in
+        ap (byte (upper v o n x * 256 ^ o + v % 256 ^ o)) e
+        ∙ byte-high (upper v o n x) o (v % 256 ^ o) (n + i) (mod-lt v (pow-256 o))
+        ∙ byte-high (v / 256 ^ o / 256 ^ n) n (x % 256 ^ n) i (mod-lt x (pow-256 n))
+        ∙ sym (ap (byte v) e ∙ byte-div v o (n + i) ∙ byte-div (v / 256 ^ o) n i)
+        ∙ sym (over-above o n (laid x o) (byte v) j l)
 
 -- ---- the bytes of words
 
 pub view-lt : (W : ℕ) (ws : List ℕ) (a : ℕ) → view W ws a < 256
 unfolding view
-view-lt W ws a = mod-lt (getD ws (a / W) 0 / 256 ^ (a % W)) (omega arith)
+view-lt W ws a = byte-lt (getD ws (a / W) 0) (a % W)
 
-pub view-word : (W : ℕ) (ws : List ℕ) (i j : ℕ) → j < W → view W ws (W * i + j) ≡ getD ws i 0 / 256 ^ j % 256
+pub view-word : (W : ℕ) (ws : List ℕ) (i j : ℕ) → j < W → view W ws (W * i + j) ≡ byte (getD ws i 0) j
 unfolding view
 view-word W ws i j l = rw (quotient, remainder)
   where
@@ -106,12 +129,57 @@ view-word W ws i j l = rw (quotient, remainder)
     remainder : (W * i + j) % W ≡ j
     remainder = mul-add-mod-self-left W i j ∙ mod-eq-of-lt l
 
-pub readLE-view : (W : ℕ) (ws : List ℕ) (i n : ℕ) → n ≤ W → readLE (view W ws) (W * i) n ≡ getD ws i 0 % 256 ^ n
-unfolding readLE
-readLE-view W ws i zero l = sym (mod-one (getD ws i 0))
-readLE-view W ws i (suc n) l =
-    rw (pow-succ' 256 n, mod-mul (getD ws i 0) {m = 256} {c = 256 ^ n} (omega arith) (pow-256 n))
-    (ap₂ (λ (x y : ℕ). x * 256 ^ n + y) (view-word W ws i n l) (readLE-view W ws i n (omega arith)))
+-- The n bytes from address a on are n bytes of word i.
+pub readLE-view : (W : ℕ) (ws : List ℕ) (i o n : ℕ) {a : ℕ} → a ≡ W * i + o → o + n ≤ W
+    → readLE (view W ws) a n ≡ readLE (byte (getD ws i 0)) o n
+readLE-view W ws i o n e l =
+    rw e
+    (readLE-cong (view W ws) (byte (getD ws i 0)) (W * i + o) o n
+    (λ j m. ap (view W ws) (add-assoc (W * i) o j) ∙ view-word W ws i (o + j) (omega arith)))
+
+-- A word that has changed at n of its bytes changes the memory at their n addresses.
+pub view-set : (W : ℕ) → 0 < W → (ws : List ℕ) (i o n v r : ℕ) {a : ℕ} → a ≡ W * i + o → o + n ≤ W → i < length ws
+    → byte r ≡ over o n (laid v o) (byte (getD ws i 0)) → view W (set ws i r) ≡ over a n (laid v a) (view W ws)
+unfolding view
+view-set W z ws i o n v r {a} e l lent h = fun-ext (λ x. go x (decLt (x / W) i) (decLt i (x / W)))
+  where
+    here : (x : ℕ) → x / W ≡ i → Place o n (x % W)
+        → over o n (laid v o) (byte (getD ws i 0)) (x % W) ≡ over a n (laid v a) (view W ws) x
+    here x d p = go p
+      where
+        at : x ≡ W * i + x % W
+        at = sym (div-add-mod x W) ∙ ap (λ (q : ℕ). W * q + x % W) d
+
+        kept : byte (getD ws i 0) (x % W) ≡ view W ws x
+        kept = ap (λ (q : ℕ). byte (getD ws q 0) (x % W)) (sym d)
+
+        go : Place o n (x % W)
+            → over o n (laid v o) (byte (getD ws i 0)) (x % W) ≡ over a n (laid v a) (view W ws) x
+        go (below k) =
+            over-below o n (laid v o) (byte (getD ws i 0)) (x % W) k ∙ kept
+            ∙ sym (over-below a n (laid v a) (view W ws) x (omega (arith, at)))
+        go (inside k m) =
+            over-in o n (laid v o) (byte (getD ws i 0)) (x % W) k m ∙ ap (byte v) (omega (arith, at))
+            ∙ sym (over-in a n (laid v a) (view W ws) x (omega (arith, at)) (omega (arith, at)))
+        go (above k) =
+            over-above o n (laid v o) (byte (getD ws i 0)) (x % W) k ∙ kept
+            ∙ sym (over-above a n (laid v a) (view W ws) x (omega (arith, at)))
+
+    other : (x : ℕ) → (x / W ≡ i → ⊥) → view W (set ws i r) x ≡ view W ws x
+    other x d = ap (λ (w : ℕ). byte w (x % W)) (getD-set-other ws i (x / W) r 0 d)
+
+    go : (x : ℕ) → Dec (x / W < i) → Dec (i < x / W) → view W (set ws i r) x ≡ over a n (laid v a) (view W ws) x
+    go x (yes p) q =
+        other x (λ d. omega arith)
+        ∙ sym (over-below a n (laid v a) (view W ws) x (omega (arith, div-lt-iff-lt-mul z .0 p, mul-comm i W)))
+    go x (no p) (yes q) =
+        other x (λ d. omega arith)
+        ∙ sym (over-above a n (laid v a) (view W ws) x (omega (arith, le-div-iff-mul-le z .0 q, suc-mul i W, mul-comm i W)))
+    go x (no p) (no q) =
+        let d : x / W ≡ i = omega arith in
+        ap (λ (j : ℕ). byte (getD (set ws i r) j 0) (x % W)) d
+        ∙ ap (λ (w : ℕ). byte w (x % W)) (getD-set-same ws i r 0 lent)
+        ∙ ap (λ (f : ℕ → ℕ). f (x % W)) h ∙ here x d (place o n (x % W))
 
 -- ---- packed words
 
@@ -138,12 +206,17 @@ pub packed-view : (W : ℕ) (ws : List ℕ) → ((i : ℕ) → getD ws i 0 < 256
 packed-view W ws h =
     ext-getD 0 (packed W (length ws) (view W ws)) ws (length-packed W (length ws) (view W ws))
     (λ i l. getD-packed W (length ws) (view W ws) i (omega (arith, length-packed W (length ws) (view W ws)))
-    ∙ readLE-view W ws i W (omega arith) ∙ mod-eq-of-lt (h i))
+    ∙ whole i ∙ mod-eq-of-lt (h i))
+  where
+    whole : (i : ℕ) → readLE (view W ws) (W * i) W ≡ getD ws i 0 % 256 ^ W
+    whole i =
+        readLE-view W ws i 0 W (omega arith) (omega arith) ∙ readLE-bytes (getD ws i 0) 0 W
+        ∙ ap (λ (v : ℕ). v % 256 ^ W) (div-one (getD ws i 0))
 
 -- The words with given bytes have these bytes.
 pub view-packed : (W : ℕ) → 0 < W → (k : ℕ) (f : ℕ → ℕ) → ((x : ℕ) → f x < 256) → (a : ℕ) → a < W * k
     → view W (packed W k f) a ≡ f a
 unfolding view
 view-packed W p k f h a l =
-    ap (λ (v : ℕ). v / 256 ^ (a % W) % 256) (getD-packed W k f (a / W) (div-lt-iff-lt-mul p .1 (omega (arith, mul-comm k W))))
+    ap (λ (v : ℕ). byte v (a % W)) (getD-packed W k f (a / W) (div-lt-iff-lt-mul p .1 (omega (arith, mul-comm k W))))
     ∙ readLE-byte f h (W * (a / W)) W (a % W) (mod-lt a p) ∙ ap f (div-add-mod a W)

@@ -18,7 +18,7 @@ abbrev pub allBelow : (ℕ → Bool) → ℕ → Bool
 allBelow t zero = true
 allBelow t (suc n) = t n && allBelow t n
 
-both : (a b : Bool) → T (a && b) → T a × T b
+pub both : (a b : Bool) → T (a && b) → T a × T b
 both true b h = (tt, h)
 both false b h = absurd h
 

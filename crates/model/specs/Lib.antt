@@ -4,6 +4,7 @@ pub mod Fit
 pub mod Tally
 pub mod Lists
 pub mod Perform
+pub mod Ran
 pub mod Meaning
 pub mod Refusals
 pub mod Answers

@@ -11,9 +11,13 @@ use lib.ListN.{getD}
 abbrev pub mostWords : ℕ → ℕ
 mostWords W = 65536 / W
 
--- The byte at address a is byte a mod W of word a div W, lowest byte first.
+-- Byte j of a number, lowest byte first.
+abbrev pub byte : ℕ → ℕ → ℕ
+byte v j = v / 256 ^ j % 256
+
+-- The byte at address a is byte a mod W of word a div W.
 unfoldable pub view : ℕ → List ℕ → ℕ → ℕ
-view W ws a = getD ws (a / W) 0 / 256 ^ (a % W) % 256
+view W ws a = byte (getD ws (a / W) 0) (a % W)
 
 -- The number that the n bytes from address a make, lowest byte first.
 unfoldable pub readLE : (ℕ → ℕ) → ℕ → ℕ → ℕ
@@ -28,6 +32,10 @@ packed W (suc k) f = packed W k f ++ (readLE f (W * k) W ∷ [])
 -- The bytes f, but g at the n addresses from a.
 unfoldable pub over : ℕ → ℕ → (ℕ → ℕ) → (ℕ → ℕ) → ℕ → ℕ
 over a n g f x = cond (leb a x && ltb x (a + n)) (g x) (f x)
+
+-- The bytes of the number v, laid at the addresses from a on.
+abbrev pub laid : ℕ → ℕ → ℕ → ℕ
+laid v a x = byte v (x - a)
 
 -- The byte stored by a fill is c mod 256, from 0 to 255: -1 gives 255 and 256 gives 0. (`negsuc n` is -1 - n.)
 abbrev pub byteOf : ℤ → ℕ

@@ -1,0 +1,33 @@
+-- `words8::access::load`: the bytes of an access that fits lie inside one word.
+-- Assumes nothing.
+use mathlib.Core.Path.{_∙_}
+use native.Mathlib.Omega.{arith}
+use borrow.Author.Needs.{needs}
+use Rattle.model.proofs.WordLaws.{one-word, part-loaded, width-some, word-lent}
+use Rattle.words8.proofs.access.load.Statement.{statement}
+use Rattle.words8.proofs.access.load.Tie as tie
+
+mul-part : tie.Need-mul-part
+mul-part c = search needs
+
+shared-slice-read-part : tie.Need-shared-slice-read-part
+shared-slice-read-part c = word-lent (omega arith) (c .before .before .pre)
+
+part-requires : tie.Need-part-requires
+part-requires c κs = (
+  omega (arith, one-word (omega arith) (c .before .before .pre .aligned)),
+  omega (arith, width-some (omega arith) (c .before .before .pre .aligned)),
+)
+
+load-of-requires : tie.Need-load-of-requires
+load-of-requires c κs = search needs
+
+returns : tie.Need-returns
+returns c = record {
+  found = c .before .part .ensures ∙ part-loaded (omega arith) (c .before .before .before .before .args .mem .now) (c .before .before .before .before .pre .aligned);
+  counted = c .load-of .ensures (c .before .before .before .before .args .at);
+}
+
+pub load-spec : {M : Type 1} → statement M
+load-spec =
+    tie.close (tie.spec mul-part shared-slice-read-part part-requires load-of-requires returns)

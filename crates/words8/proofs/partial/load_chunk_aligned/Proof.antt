@@ -1,0 +1,69 @@
+-- `words8::partial::load_chunk_aligned`: a chunk is loaded where the size has its digit (`Set`), and placed above those before it.
+-- Assumes nothing.
+use mathlib.Core.List.{[], _∷_}
+use native.Mathlib.Omega.{arith}
+use borrow.Author.Needs.{needs}
+use Rattle.model.specs.Access.{load}
+use Rattle.model.proofs.TallyLaws.{joinable}
+use Rattle.words8.proofs.Chunks.{Set, asked-set, digit-clear, none-loaded, one-loaded}
+use Rattle.words8.proofs.partial.load_chunk_aligned.Statement.{statement}
+use Rattle.words8.proofs.partial.load_chunk_aligned.Tie as tie
+use Rattle.words8.proofs.partial.load_chunk_aligned.Reads as reads
+use Rattle.words8.proofs.partial.load_chunk_aligned.Lts as lts
+use Rattle.words8.proofs.access.load.Reads as load-reads
+use Rattle.words8.proofs.bytes.bits.Reads as bits-reads
+use Rattle.model.proofs.join.Reads as join-reads
+
+set : (c : lts.Else1 (load-reads.Asked, load-reads.Learnt, bits-reads.Asked, bits-reads.Learnt, join-reads.Asked, join-reads.Learnt) reads.Pre reads.Post)
+    → Set (c .before .before .args .mem .now) (c .before .before .args .chunk-sz) (c .before .before .args .src)
+    (c .before .before .args .dst) (c .before .before .args .load-sz) (c .before .before .args .part .offset)
+set c = asked-set (c .before .before .pre) (c .if1 .left)
+
+returns : tie.Need-returns
+returns c = none-loaded (digit-clear _ _ (c .before .before .pre .less) (c .before .before .pre .divides) (c .if1 .taken))
+
+add-load : tie.Need-add-load
+add-load c = omega (arith, set c .fit .range .few, set c .fit .range .inside)
+
+load-requires : tie.Need-load-requires
+load-requires c κs = set c .fit
+
+add-bits : tie.Need-add-bits
+add-bits c = omega (arith, set (c .before) .room)
+
+bits-requires : tie.Need-bits-requires
+bits-requires c κs = omega (arith, set (c .before) .room)
+
+cast-t14 : tie.Need-cast-t14
+cast-t14 c = search needs
+
+shl-t15 : tie.Need-shl-t15
+shl-t15 c = omega (arith, set (c .before .before) .room, set (c .before .before) .some)
+
+add-t17 : tie.Need-add-t17
+add-t17 c = omega (arith, set (c .before .before) .room)
+
+join-requires : tie.Need-join-requires
+join-requires c κs =
+    joinable (c .before .before .before .before .pre .xs) (load _ _ ∷ []) (c .before .before .before .before .pre .so .counted)
+    (c .before .load .ensures .counted)
+    (omega (arith, c .before .before .before .before .pre .so .few, set (c .before .before) .room))
+
+returns-2 : tie.Need-returns-2
+returns-2 c =
+    one-loaded (set (c .before .before .before)) (c .before .before .load .ensures) (c .before .bits .ensures) (c .join .ensures)
+
+pub load-chunk-aligned-spec : {M : Type 1} → statement M
+load-chunk-aligned-spec =
+    tie.close
+    (tie.spec
+    returns
+    add-load
+    load-requires
+    add-bits
+    bits-requires
+    cast-t14
+    shl-t15
+    add-t17
+    join-requires
+    returns-2)
