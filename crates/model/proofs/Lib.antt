@@ -3,6 +3,7 @@ pub mod FitLaws
 pub mod PerformLaws
 pub mod ByteLaws
 pub mod MemoryLaws
+pub mod SpliceLaws
 pub mod WordLaws
 pub mod ShiftLaws
 pub mod RanLaws

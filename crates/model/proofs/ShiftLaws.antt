@@ -11,7 +11,8 @@ use lib.Bits.{bitOr, or-shifted-r}
 use lib.Pow.{pow-add}
 use Rattle.model.specs.Memory.{byte, view, readLE, over, laid}
 use Rattle.model.proofs.ByteLaws.{pow-256, readLE-append, readLE-bytes, readLE-cong, readLE-lt}
-use Rattle.model.proofs.MemoryLaws.{readLE-view, splice-lt, spliced, taken-le}
+use Rattle.model.proofs.MemoryLaws.{readLE-view}
+use Rattle.model.proofs.SpliceLaws.{splice-lt, spliced, taken-le}
 
 pub pow-bits : (k : ℕ) → 2 ^ (8 * k) ≡ 256 ^ k
 pow-bits zero = refl

@@ -3,12 +3,16 @@
 use mathlib.Core.Path.{_≡_, sym}
 use mathlib.Core.List.{List}
 use Prim.Native.Nat.{ℕ, zero, suc, _+_, _*_, _/_, _%_, _<_, _≤_}
-use native.Mathlib.Nat.{div-add-mod, div-lt-iff-lt-mul, dvd-of-mod-eq-zero, lt-of-mul-lt-mul-left, mod-lt, mod-mod-of-dvd, mod-zero, mul-comm, mul-le-mul-left, mul-suc}
+use native.Mathlib.Nat.{div-add-mod, div-lt-iff-lt-mul, dvd-of-mod-eq-zero, dvd-trans, lt-of-mul-lt-mul-left, mod-eq-zero-of-dvd, mod-lt, mod-mod-of-dvd, mod-zero, mul-comm, mul-le-mul-left, mul-suc}
 use native.Mathlib.Omega.{arith}
 use lib.ListN.{length, getD, set}
 use Rattle.model.specs.Fit.{Aligned, Fit}
 use Rattle.model.specs.Memory.{byte, view, readLE, over, laid}
 use Rattle.model.proofs.MemoryLaws.{readLE-view, view-set}
+
+-- A width that divides the word divides eight bytes, if the word does.
+pub eight-bytes : {W w a : ℕ} → 8 % W ≡ 0 → Aligned W w a → 8 % w ≡ 0
+eight-bytes {W} {w} e f = mod-eq-zero-of-dvd w (dvd-trans w (dvd-of-mod-eq-zero w (f .divides)) (dvd-of-mod-eq-zero W e))
 
 module _ {W w a : ℕ} (some : 0 < W) where
   pub width-some : Aligned W w a → 0 < w

@@ -8,11 +8,11 @@ ghost use Rattle.words8.specs.Word.{W};
 ghost use Rattle.model.specs.Memory.{byte, readLE, view, over, laid};
 
 // A shift by so many bits moves `count` bytes.
-pub fn bits(count: usize) -> u32
+pub fn bits(count: usize) -> Word
     requires { ⌜ count ≤ W ⌝ }
     ensures { λ r. ⌜ r ≡ 8 * count ⌝ }
 {
-    (8 * count) as u32
+    (8 * count) as Word
 }
 
 // The `width` bytes of `word` from byte `offset` on, as a number: what is above them is shifted out first, then what is below.
@@ -47,9 +47,10 @@ pub fn reassembled(low: Word, high: Word, offset: usize) -> Word
 pub fn broadcast(c: u8) -> Word
     ensures { λ r. ⌜ r ≡ readLE (λ x. c) 0 W ⌝ }
 {
+    let word_bits = bits(WORD_SIZE);
     let mut broadcast = c as Word;
-    let mut bits = 8;
-    while bits < WORD_SIZE * 8 {
+    let mut bits: Word = 8;
+    while bits < word_bits {
         broadcast |= broadcast << bits;
         bits *= 2;
     }

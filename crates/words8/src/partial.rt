@@ -38,13 +38,14 @@ pub fn load_chunk_aligned(
     if load_sz & chunk_sz == 0 {
         return part;
     }
-    let out = part.out;
     let offset = part.offset;
     let chunk = load(mem, src + offset, chunk_sz);
     let value = chunk.value;
+    let placed = value << bits(dst + offset);
+    let next = offset + chunk_sz;
     Loading {
-        out: out | value << bits(dst + offset),
-        offset: offset + chunk_sz,
+        out: part.out | placed,
+        offset: next,
         work: join(part.work, chunk.work),
     }
 }

@@ -1,9 +1,9 @@
 -- `words8::access::load`: the bytes of an access that fits lie inside one word.
 -- Assumes nothing.
-use mathlib.Core.Path.{_∙_}
+use mathlib.Core.Path.{refl, _∙_}
 use native.Mathlib.Omega.{arith}
 use borrow.Author.Needs.{needs}
-use Rattle.model.proofs.WordLaws.{one-word, part-loaded, width-some, word-lent}
+use Rattle.model.proofs.WordLaws.{eight-bytes, one-word, part-loaded, width-some, word-lent}
 use Rattle.words8.proofs.access.load.Statement.{statement}
 use Rattle.words8.proofs.access.load.Tie as tie
 
@@ -20,7 +20,7 @@ part-requires c κs = (
 )
 
 load-of-requires : tie.Need-load-of-requires
-load-of-requires c κs = search needs
+load-of-requires c κs = omega (arith, eight-bytes refl (c .before .before .before .pre .aligned))
 
 returns : tie.Need-returns
 returns c = record {

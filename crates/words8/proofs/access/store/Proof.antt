@@ -1,9 +1,10 @@
 -- `words8::access::store`: one word is changed, at the bytes of the access.
 -- Assumes nothing.
+use mathlib.Core.Path.{refl}
 use native.Mathlib.Omega.{arith}
 use lib.ListN.{length-set}
 use borrow.Author.Needs.{needs}
-use Rattle.model.proofs.WordLaws.{one-word, part-stored, width-some, word-lent}
+use Rattle.model.proofs.WordLaws.{eight-bytes, one-word, part-stored, width-some, word-lent}
 use Rattle.words8.proofs.access.store.Statement.{statement}
 use Rattle.words8.proofs.access.store.Tie as tie
 
@@ -26,7 +27,7 @@ slice-write-mem : tie.Need-slice-write-mem
 slice-write-mem c = word-lent (omega arith) (c .before .before .before .pre)
 
 store-of-requires : tie.Need-store-of-requires
-store-of-requires c κs = search needs
+store-of-requires c κs = omega (arith, eight-bytes refl (c .before .before .before .pre .aligned))
 
 same-length : tie.Need-same-length
 same-length c = search needs

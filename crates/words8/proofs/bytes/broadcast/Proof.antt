@@ -51,17 +51,17 @@ twice {c} h s l = record {
 }
 
 abbrev Inv-loop : tie.InvT-loop
-Inv-loop c broadcast₀ bits₀ broadcast bits = So c broadcast bits
+Inv-loop c word-bits broadcast₀ bits₀ broadcast bits = So c broadcast bits
 
 abbrev μ-loop : tie.MeasureT-loop
-μ-loop c broadcast₀ bits₀ broadcast bits = 8 * W - bits
+μ-loop c word-bits broadcast₀ bits₀ broadcast bits = 8 * W - bits
+
+bits-requires : tie.Need-bits-requires Inv-loop μ-loop
+bits-requires c κs = search needs
 
 loop-holds : tie.Need-loop-holds Inv-loop μ-loop
 unfolding readLE
 loop-holds c = record { n = 1; size = omega arith; divides = mod-one W; word = omega arith }
-
-mul-loop : tie.Need-mul-loop Inv-loop μ-loop
-mul-loop c = search needs
 
 shl-broadcast : tie.Need-shl-broadcast Inv-loop μ-loop
 shl-broadcast c = search needs
@@ -84,8 +84,8 @@ broadcast-spec =
     (tie.spec
     Inv-loop
     μ-loop
+    bits-requires
     loop-holds
-    mul-loop
     shl-broadcast
     mul-bits
     loop-less

@@ -16,9 +16,6 @@ sub-bits-2 c = search needs
 bits-requires : tie.Need-bits-requires
 bits-requires c κs = search needs
 
-cast-result : tie.Need-cast-result
-cast-result c = search needs
-
 shl-result : tie.Need-shl-result
 shl-result c = search needs
 
@@ -27,9 +24,6 @@ sub-bits-3 c = search needs
 
 bits-requires-2 : tie.Need-bits-requires-2
 bits-requires-2 c κs = search needs
-
-cast-result-2 : tie.Need-cast-result-2
-cast-result-2 c = search needs
 
 shr-result : tie.Need-shr-result
 shr-result c = search needs
@@ -46,10 +40,8 @@ part-spec =
     sub-bits
     sub-bits-2
     bits-requires
-    cast-result
     shl-result
     sub-bits-3
     bits-requires-2
-    cast-result-2
     shr-result
     returns)

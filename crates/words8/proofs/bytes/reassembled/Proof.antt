@@ -11,9 +11,6 @@ use Rattle.words8.proofs.bytes.reassembled.Tie as tie
 bits-requires : tie.Need-bits-requires
 bits-requires c κs = search needs
 
-cast-result : tie.Need-cast-result
-cast-result c = search needs
-
 shr-result : tie.Need-shr-result
 shr-result c = search needs
 
@@ -22,9 +19,6 @@ bits-requires-2 c κs = search needs
 
 sub-result : tie.Need-sub-result
 sub-result c = search needs
-
-cast-result-2 : tie.Need-cast-result-2
-cast-result-2 c = search needs
 
 shl-result : tie.Need-shl-result
 shl-result c = search needs
@@ -39,10 +33,8 @@ reassembled-spec =
     tie.close
     (tie.spec
     bits-requires
-    cast-result
     shr-result
     bits-requires-2
     sub-result
-    cast-result-2
     shl-result
     returns)

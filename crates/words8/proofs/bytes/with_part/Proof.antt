@@ -18,17 +18,11 @@ bits-requires c κs = search needs
 part-requires : tie.Need-part-requires
 part-requires c κs = search needs
 
-cast-old : tie.Need-cast-old
-cast-old c = search needs
-
 shl-old : tie.Need-shl-old
 shl-old c = search needs
 
 part-requires-2 : tie.Need-part-requires-2
 part-requires-2 c κs = search needs
-
-cast-new : tie.Need-cast-new
-cast-new c = search needs
 
 shl-new : tie.Need-shl-new
 shl-new c = search needs
@@ -58,10 +52,8 @@ with-part-spec =
     (tie.spec
     bits-requires
     part-requires
-    cast-old
     shl-old
     part-requires-2
-    cast-new
     shl-new
     sub-result
     add-result

@@ -2,7 +2,6 @@
 -- Assumes nothing.
 use mathlib.Core.List.{[], _∷_}
 use native.Mathlib.Omega.{arith}
-use borrow.Author.Needs.{needs}
 use Rattle.model.specs.Access.{load}
 use Rattle.model.proofs.TallyLaws.{joinable}
 use Rattle.words8.proofs.Chunks.{Set, asked-set, digit-clear, none-loaded, one-loaded}
@@ -34,24 +33,22 @@ add-bits c = omega (arith, set (c .before) .room)
 bits-requires : tie.Need-bits-requires
 bits-requires c κs = omega (arith, set (c .before) .room)
 
-cast-t14 : tie.Need-cast-t14
-cast-t14 c = search needs
+shl-placed : tie.Need-shl-placed
+shl-placed c = omega (arith, set (c .before .before) .room, set (c .before .before) .some)
 
-shl-t15 : tie.Need-shl-t15
-shl-t15 c = omega (arith, set (c .before .before) .room, set (c .before .before) .some)
-
-add-t17 : tie.Need-add-t17
-add-t17 c = omega (arith, set (c .before .before) .room)
+add-next : tie.Need-add-next
+add-next c = omega (arith, set (c .before .before) .room)
 
 join-requires : tie.Need-join-requires
 join-requires c κs =
-    joinable (c .before .before .before .before .pre .xs) (load _ _ ∷ []) (c .before .before .before .before .pre .so .counted)
-    (c .before .load .ensures .counted)
-    (omega (arith, c .before .before .before .before .pre .so .few, set (c .before .before) .room))
+    joinable (c .before .before .before .before .before .pre .xs) (load _ _ ∷ [])
+    (c .before .before .before .before .before .pre .so .counted) (c .before .before .load .ensures .counted)
+    (omega (arith, c .before .before .before .before .before .pre .so .few, set (c .before .before .before) .room))
 
 returns-2 : tie.Need-returns-2
 returns-2 c =
-    one-loaded (set (c .before .before .before)) (c .before .before .load .ensures) (c .before .bits .ensures) (c .join .ensures)
+    one-loaded (set (c .before .before .before .before)) (c .before .before .before .load .ensures) (c .before .before .bits .ensures)
+    (c .join .ensures)
 
 pub load-chunk-aligned-spec : {M : Type 1} → statement M
 load-chunk-aligned-spec =
@@ -62,8 +59,7 @@ load-chunk-aligned-spec =
     load-requires
     add-bits
     bits-requires
-    cast-t14
-    shl-t15
-    add-t17
+    shl-placed
+    add-next
     join-requires
     returns-2)
