@@ -1,4 +1,4 @@
--- What a routine did, by the accesses that it made. Each contract of a routine is one of these three relations.
+-- What a routine did, by the accesses that it made: what the contracts of routines that make accesses say.
 -- Assumes nothing.
 use mathlib.Core.Path.{_≡_}
 use mathlib.Core.List.{List, [], _∷_}

@@ -4,7 +4,7 @@ use mathlib.Core.Path.{_≡_, refl, ap, _∙_}
 use mathlib.Core.Bool.{Bool, not, _||_}
 use mathlib.Core.List.{List, [], _∷_, _++_, append-assoc, append-nil}
 use Prim.Native.Nat.{ℕ, zero, suc, _+_, _*_, _-_, _/_, _%_, _^_, _<_, _≤_}
-use native.Mathlib.Nat.{dvd-of-mod-eq-zero, le-of-dvd, mod-lt, mod-one, mul-one, mul-zero, zero-mod}
+use native.Mathlib.Nat.{dvd-of-mod-eq-zero, le-of-dvd, mod-lt, mul-one, mul-zero, zero-mod}
 use native.Mathlib.Omega.{arith}
 use lib.Bits.{bitAnd, bitOr}
 use lib.Dec.{eqb, eqb→eq}
@@ -137,11 +137,7 @@ front-sum m l = omega arith
 pub end-sum : (m : ℕ) → m < W → 1 * (m / 1 % 2) + 2 * (m / 2 % 2) + 4 * (m / 4 % 2) ≡ m
 end-sum m l = omega arith
 
--- The last chunk, after two of other sizes.
-pub front-one : (src m : ℕ) {o p : ℕ} → src % W ≡ 0 → m < W → o ≡ 0 + 4 * (m / 4 % 2) → p ≡ o + 2 * (m / 2 % 2) → m / 1 % 2 ≡ 1
-    → ((src + p) % 1 ≡ 0) × (p + 1 ≤ m)
-front-one src m {p = p} a l e f d = (mod-one (src + p), omega (arith, front-sum m l))
-
+-- The end partial load's four bytes, after one and two.
 pub end-four : (src m : ℕ) {o p : ℕ} → src % W ≡ 0 → m < W → o ≡ 0 + 1 * (m / 1 % 2) → p ≡ o + 2 * (m / 2 % 2) → m / 4 % 2 ≡ 1
     → ((src + (W - m) + p) % 4 ≡ 0) × (p + 4 ≤ m)
 end-four src m {p = p} a l e f d =

@@ -34,7 +34,8 @@ pub record ChunkAsked (ws : List ℕ) (w src dst m : ℕ) (p : Loading) : Type 0
   pub fits : m / w % 2 ≡ 1 → Fit W (length ws) w (src + p .offset)
   pub room : m / w % 2 ≡ 1 → dst + p .offset + w ≤ W
 
--- Then it is loaded there, and nowhere else.
+-- What a chunk leaves: where it was loaded, the offset has advanced past it, and what held after the accesses xs holds after xs and its
+-- load. Where it was not, all is as before.
 pub record ChunkDone (f : ℕ → ℕ) (w src dst m : ℕ) (p r : Loading) : Type 0 where
   pub offset : r .offset ≡ p .offset + w * (m / w % 2)
   pub so : (xs : List Access) → SoFar f src dst xs p → SoFar f src dst (xs ++ made (m / w % 2) (load w (src + p .offset))) r

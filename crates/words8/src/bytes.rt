@@ -28,9 +28,9 @@ pub fn with_part(word: Word, offset: usize, width: usize, value: Word) -> Word
     requires { ⌜ (offset + width ≤ W) × (0 < width) ⌝ }
     ensures { λ r. ⌜ byte r ≡ over offset width (laid value offset) (byte word) ⌝ }
 {
-    let shift = bits(offset);
-    let old = part(word, offset, width) << shift;
-    let new = part(value, 0, width) << shift;
+    let place = bits(offset);
+    let old = part(word, offset, width) << place;
+    let new = part(value, 0, width) << place;
     word - old + new
 }
 

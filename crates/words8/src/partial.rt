@@ -43,10 +43,12 @@ pub fn load_chunk_aligned(
     let value = chunk.value;
     let placed = value << bits(dst + offset);
     let next = offset + chunk_sz;
+    let before = part.work;
+    let joined = join(before, chunk.work);
     Loading {
         out: part.out | placed,
         offset: next,
-        work: join(part.work, chunk.work),
+        work: joined,
     }
 }
 

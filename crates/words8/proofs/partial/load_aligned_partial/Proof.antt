@@ -5,7 +5,7 @@ use native.Mathlib.Nat.{mul-one}
 use mathlib.Core.List.{[]}
 use native.Mathlib.Omega.{arith}
 use borrow.Author.Needs.{needs}
-use Rattle.words8.proofs.Chunks.{asked, at-start, three-chunks, front-one, front-sum}
+use Rattle.words8.proofs.Chunks.{asked, at-start, three-chunks, front-sum}
 use Rattle.words8.proofs.partial.load_aligned_partial.Statement.{statement}
 use Rattle.words8.proofs.partial.load_aligned_partial.Tie as tie
 
@@ -27,9 +27,10 @@ load-chunk-aligned-requires-3 : tie.Need-load-chunk-aligned-requires-3
 load-chunk-aligned-requires-3 c κs =
     asked refl (c .before .before .before .before .pre) (omega arith) (omega arith)
     (c .load-chunk-aligned2 .ensures .so _ (c .before .load-chunk-aligned .ensures .so [] (at-start (c .before .before .zero .ensures))))
-    (front-one (c .before .before .before .before .args .src) (c .before .before .before .before .args .load-sz)
-    (c .before .before .before .before .pre .aligned) (c .before .before .before .before .pre .less)
-    (c .before .load-chunk-aligned .ensures .offset) (c .load-chunk-aligned2 .ensures .offset))
+    (λ d. (
+      omega (arith, c .before .load-chunk-aligned .ensures .offset, c .load-chunk-aligned2 .ensures .offset),
+      omega (arith, c .before .load-chunk-aligned .ensures .offset, c .load-chunk-aligned2 .ensures .offset),
+    ))
 
 returns : tie.Need-returns
 returns c =

@@ -47,8 +47,8 @@ join-requires c κs =
 
 returns-2 : tie.Need-returns-2
 returns-2 c =
-    one-loaded (set (c .before .before .before .before)) (c .before .before .before .load .ensures) (c .before .before .bits .ensures)
-    (c .join .ensures)
+    one-loaded {s = c .before .before .before .bits .result} (set (c .before .before .before .before .before))
+    (c .before .before .before .before .load .ensures) (omega arith) (c .before .join .ensures)
 
 pub load-chunk-aligned-spec : {M : Type 1} → statement M
 load-chunk-aligned-spec =
