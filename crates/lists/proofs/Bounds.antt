@@ -10,11 +10,11 @@ use native.Mathlib.Omega.{arith}
 use lib.Dec.{leb, eqb, leb→le}
 use lib.ListN.{length}
 use borrow.Author.Tests.{lt-ltb, le-ltb}
-use Rattle.model.specs.Lists.{cursor, past, threshold, head, along, fillList, compareList, stringList}
+use Rattle.model.specs.Lists.{cursor, past, threshold, head, wholeWords, along, fillList, compareList, stringList}
 use Rattle.model.proofs.Widths.{below}
 use Rattle.lists.specs.Sizes.{Core, eight-byte, four-byte, ones, wordAccesses, runAccesses, accesses, fillAccesses, slack}
 use Rattle.lists.proofs.Cores.{core-some, split}
-use Rattle.lists.proofs.Lengths.{along-length, fill-length, compare-length, string-length}
+use Rattle.lists.proofs.Lengths.{words-length, along-length, fill-length, compare-length, string-length}
 
 -- How many accesses w words of a misaligned source take beyond two for each word.
 extra : {W : ℕ} → Core W → ℕ
@@ -65,6 +65,10 @@ words-few : {W : ℕ} (p : Core W) (w : ℕ) → 0 < w → 2 * w + extra p ≤ 2
 unfolding extra
 words-few eight-byte w l = omega arith
 words-few four-byte w l = omega arith
+
+pub whole-words-few : {W : ℕ} → Core W → (up : Bool) (d s w : ℕ) → 0 < w → length (wholeWords up W d s w) ≤ 2 * (W * w)
+whole-words-few {W} p up d s w l =
+    omega (arith, words-length up W d s w (core-some p), words-bound p (s % W) w (mod-lt s (core-some p)) l, words-few p w l)
 
 -- Every list of a copy or move has at most 2 n accesses.
 pub along-few : {W : ℕ} → Core W → (up : Bool) (dest src n : ℕ) → length (along up W dest src n) ≤ 2 * n

@@ -3,7 +3,7 @@
 use mathlib.Core.Path.{_≡_, refl, sym, ap, ap₂, _∙_}
 use mathlib.Core.Bool.{Bool, true, false, cond}
 use mathlib.Core.List.{List, [], _∷_, _++_}
-use Prim.Native.Nat.{ℕ, zero, suc, _+_, _*_, _-_, _/_, _%_, _<_, min}
+use Prim.Native.Nat.{ℕ, zero, suc, _+_, _*_, _-_, _/_, _%_, _<_, _≤_, min}
 use native.Mathlib.Nat.{mod-lt, mul-suc, mul-zero}
 use native.Mathlib.Omega.{arith}
 use lib.Dec.{ltb, eqb}
@@ -15,7 +15,7 @@ use Rattle.lists.proofs.Cores.{core-some}
 
 -- ---- the parts
 
-upto-length : (c n : ℕ) (f : ℕ → List Access) → ((i : ℕ) → length (f i) ≡ c) → length (upto n f) ≡ c * n
+pub upto-length : (c n : ℕ) (f : ℕ → List Access) → ((i : ℕ) → length (f i) ≡ c) → length (upto n f) ≡ c * n
 unfolding upto
 upto-length c zero f h = sym (mul-zero c)
 upto-length c (suc n) f h =
@@ -58,6 +58,17 @@ lead-length false a m = front-length a m
 pub trail-length : (up : Bool) (a m : ℕ) → length (trail up a m) ≡ ones m
 trail-length true a m = front-length a m
 trail-length false a m = end-length a m
+
+-- And so three at most.
+ones-few : (m : ℕ) → ones m ≤ 3
+unfolding ones
+ones-few m = omega arith
+
+pub lead-few : (up : Bool) (a m : ℕ) → length (lead up a m) ≤ 3
+lead-few up a m = omega (arith, lead-length up a m, ones-few m)
+
+pub trail-few : (up : Bool) (a m : ℕ) → length (trail up a m) ≤ 3
+trail-few up a m = omega (arith, trail-length up a m, ones-few m)
 
 -- Misaligned words: both partial loads, two accesses for each word between them, the last store.
 pub misaligned-length : (up : Bool) (W d s m v : ℕ)

@@ -14,3 +14,9 @@ pub mod Lengths
 pub mod Bounds
 pub mod Firsts
 pub mod Measured
+pub mod Asking
+pub mod Turns
+pub mod Straddled
+pub mod Misaligned
+pub mod Phases
+pub mod Passed

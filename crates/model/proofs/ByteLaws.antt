@@ -63,6 +63,11 @@ readLE-cong f g a b zero h = refl
 readLE-cong f g a b (suc n) h =
     ap₂ (λ (x y : ℕ). x * 256 ^ n + y) (h n (omega arith)) (readLE-cong f g a b n (λ j l. h j (omega arith)))
 
+-- One byte.
+pub readLE-one : (f : ℕ → ℕ) (a : ℕ) → readLE f a 1 ≡ f a
+unfolding readLE
+readLE-one f a = rw (add-zero a) (omega arith)
+
 -- Two runs in a row: the second is the upper part.
 pub readLE-append : (f : ℕ → ℕ) (a m n : ℕ) → readLE f a (m + n) ≡ readLE f (a + m) n * 256 ^ m + readLE f a m
 unfolding readLE

@@ -8,8 +8,8 @@ use Prim.Native.Nat.{ℕ, zero, suc, _+_, _*_, _/_, _%_, _^_, _<_, _≤_}
 use native.Mathlib.Nat.{mul-add-div, div-eq-of-lt, mul-add-mod-self-left, mod-eq-of-lt, add-zero, add-assoc, div-one, div-add-mod, mod-lt, div-lt-iff-lt-mul, le-div-iff-mul-le, mul-comm, suc-mul, eq-or-lt-of-le, le-of-suc-le-suc}
 use native.Mathlib.Decide.{decLt}
 use native.Mathlib.Omega.{arith}
-use lib.ListN.{length, getD, set, length-append, List·getD-append}
-use lib.Seq.{ext-getD, getD-at, getD-set-same, getD-set-other}
+use lib.ListN.{length, getD, set, drop, length-append, List·getD-append}
+use lib.Seq.{ext-getD, getD-at, getD-drop, getD-set-same, getD-set-other}
 use borrow.Author.Tests.{le-leb, lt-leb, lt-ltb, le-ltb}
 use Rattle.model.specs.Memory.{byte, view, readLE, packed, over, laid}
 use Rattle.model.proofs.ByteLaws.{byte-lt, readLE-byte, readLE-bytes, readLE-cong}
@@ -67,6 +67,11 @@ view-word W ws i j l = rw (quotient, remainder)
 
     remainder : (W * i + j) % W ≡ j
     remainder = mul-add-mod-self-left W i j ∙ mod-eq-of-lt l
+
+-- The bytes of the words from word i on.
+pub view-drop : (W : ℕ) → 0 < W → (ws : List ℕ) (i a : ℕ) → view W (drop i ws) a ≡ view W ws (W * i + a)
+unfolding view
+view-drop W p ws i a = rw (getD-drop i ws (a / W) 0, mul-add-div p i a, mul-add-mod-self-left W i a)
 
 -- The n bytes from address a on are n bytes of word i.
 pub readLE-view : (W : ℕ) (ws : List ℕ) (i o n : ℕ) {a : ℕ} → a ≡ W * i + o → o + n ≤ W

@@ -1,8 +1,8 @@
 -- What routines did one after the other: nothing; one list and then another; one more turn of a loop; a load and the store of what
--- it gave; the store of a fill. A routine's proof is these laws and arithmetic.
+-- it gave; the store of a fill. A routine's proof is these laws and arithmetic. They are stated of `Carried`, and so hold of `Ran`.
 -- Assumes nothing.
-use mathlib.Core.Path.{_≡_, refl, sym, ap, _∙_}
-use mathlib.Core.List.{List, [], _∷_, _++_}
+use mathlib.Core.Path.{_≡_, refl, sym, ap, subst, _∙_, fun-ext}
+use mathlib.Core.List.{List, [], _∷_, _++_, append-assoc}
 use Prim.Native.Nat.{ℕ, _+_, _-_, _^_, _<_, _≤_}
 use native.Mathlib.Numerals.{add-one}
 use native.Mathlib.Omega.{arith}
@@ -13,7 +13,7 @@ use Rattle.model.specs.Memory.{byte, view, readLE, over, laid}
 use Rattle.model.specs.Lists.{upto}
 use Rattle.model.specs.Perform.{State, perform, moving, filling}
 use Rattle.model.specs.Tally.{tally, joined, Joinable}
-use Rattle.model.specs.Ran.{Ran, Stored, Found}
+use Rattle.model.specs.Ran.{Carried, Ran, Stored, Found}
 use Rattle.model.proofs.ByteLaws.{readLE-byte}
 use Rattle.model.proofs.MemoryLaws.{over-in, over-cong, view-lt}
 use Rattle.model.proofs.PerformLaws.{perform-append}
@@ -24,61 +24,91 @@ pub counted-then : {a b c : Work} (xs ys : List Access) → a ≡ tally xs → b
     → c ≡ tally (xs ++ ys)
 counted-then xs ys p q r = rw (r, p, q, tally-append xs ys)
 
-pub ran-none : {W : ℕ} {give : (ℕ → ℕ) → ℕ → ℕ} {ws : List ℕ} {a : Work} → a ≡ tally [] → Ran W give [] ws ws a
+pub ran-none : {W : ℕ} {give : (ℕ → ℕ) → ℕ → ℕ} {pre : (ℕ → ℕ) → Type 0} {ws : List ℕ} {a : Work} → a ≡ tally []
+    → Carried W give pre [] pre ws ws a
 unfolding perform
-ran-none p = record { size = refl; performed = λ held. refl; counted = p }
+ran-none p = record { size = refl; performed = λ held h. refl; holding = λ held h. h; counted = p }
 
-module _ {W : ℕ} {give : (ℕ → ℕ) → ℕ → ℕ} {ws ws' ws'' : List ℕ} {a b : Work} where
-  pub ran-then : {c : Work} {xs ys : List Access} → Ran W give xs ws ws' a → Ran W give ys ws' ws'' b → c ≡ joined a b
-      → Ran W give (xs ++ ys) ws ws'' c
+-- More may be asked of what is held, and less said of it.
+pub ran-weaker : {W : ℕ} {give : (ℕ → ℕ) → ℕ → ℕ} {pre pre' post post' : (ℕ → ℕ) → Type 0} {xs : List Access} {ws ws' : List ℕ} {a : Work}
+    → ((held : ℕ → ℕ) → pre' held → pre held) → ((held : ℕ → ℕ) → post held → post' held)
+    → Carried W give pre xs post ws ws' a → Carried W give pre' xs post' ws ws' a
+ran-weaker f g p = record {
+  size = p .size;
+  performed = λ held h. p .performed held (f held h);
+  holding = λ held h. g _ (p .holding held (f held h));
+  counted = p .counted;
+}
+
+-- dest and src may have advanced together.
+pub ran-together : {W : ℕ} {pre post : (ℕ → ℕ) → Type 0} {xs : List Access} {ws ws' : List ℕ} {a : Work} (d s dest src : ℕ)
+    → d + src ≡ s + dest → Carried W (moving d s) pre xs post ws ws' a → Carried W (moving dest src) pre xs post ws ws' a
+ran-together {W} {pre} {post} {xs} {ws} {ws'} {a} d s dest src e p =
+    subst (λ (give : (ℕ → ℕ) → ℕ → ℕ). Carried W give pre xs post ws ws' a) same p
+  where
+    same : moving d s ≡ moving dest src
+    same = fun-ext (λ held. fun-ext (λ x. ap held (omega arith)))
+
+module _ {W : ℕ} {give : (ℕ → ℕ) → ℕ → ℕ} {pre mid post : (ℕ → ℕ) → Type 0} {ws ws' ws'' : List ℕ} {a b : Work} where
+  pub ran-then : {c : Work} {xs ys : List Access} → Carried W give pre xs mid ws ws' a → Carried W give mid ys post ws' ws'' b
+      → c ≡ joined a b → Carried W give pre (xs ++ ys) post ws ws'' c
   ran-then {xs} {ys} p q r = record {
     size = q .size ∙ p .size;
-    performed = then;
+    performed = λ held h. ap (λ (x : State). x .bytes) (both held h) ∙ q .performed (after held) (p .holding held h);
+    holding = λ held h. subst (λ (x : State). post (x .held)) (sym (both held h)) (q .holding (after held) (p .holding held h));
     counted = counted-then xs ys (p .counted) (q .counted) r;
   }
     where
-      z : (ℕ → ℕ) → State
-      z held = record { bytes = view W ws; held = held }
+      from : List ℕ → (ℕ → ℕ) → State
+      from vs held = record { bytes = view W vs; held = held }
 
-      then : (held : ℕ → ℕ) → perform give (xs ++ ys) (z held) .bytes ≡ view W ws''
-      then held =
-          ap (λ (x : State). x .bytes) (perform-append give xs ys (z held))
-          ∙ ap (λ (f : ℕ → ℕ). perform give ys (record { bytes = f; held = perform give xs (z held) .held }) .bytes) (p .performed held)
-          ∙ q .performed (perform give xs (z held) .held)
+      after : (ℕ → ℕ) → ℕ → ℕ
+      after held = perform give xs (from ws held) .held
 
-  pub ran-turn : {c : Work} (i : ℕ) (f : ℕ → List Access) → Ran W give (upto i f) ws ws' a → Ran W give (f i) ws' ws'' b
-      → c ≡ joined a b → Ran W give (upto (i + 1) f) ws ws'' c
+      both : (held : ℕ → ℕ) → pre held → perform give (xs ++ ys) (from ws held) ≡ perform give ys (from ws' (after held))
+      both held h =
+          perform-append give xs ys (from ws held)
+          ∙ ap (λ (f : ℕ → ℕ). perform give ys (record { bytes = f; held = after held })) (p .performed held h)
+
+  -- One more turn of a loop, after the accesses that were made before the loop.
+  pub ran-turn : {c : Work} (before : List Access) (i : ℕ) (f : ℕ → List Access) {j : ℕ} → j ≡ i + 1
+      → Carried W give pre (before ++ upto i f) mid ws ws' a → Carried W give mid (f i) post ws' ws'' b → c ≡ joined a b
+      → Carried W give pre (before ++ upto j f) post ws ws'' c
   unfolding upto
-  ran-turn i f p q r = rw (add-one i) (ran-then p q r)
+  ran-turn before i f e p q r = rw (e, add-one i, ← append-assoc before (upto i f) (f i)) (ran-then p q r)
 
-  pub ran-joinable : {xs ys : List Access} → Ran W give xs ws ws' a → Ran W give ys ws' ws'' b
+  pub ran-joinable : {xs ys : List Access} → Carried W give pre xs mid ws ws' a → Carried W give mid ys post ws' ws'' b
       → length xs + length ys < 2 ^ 64 → Joinable a b
   ran-joinable {xs} {ys} p q l = joinable xs ys (p .counted) (q .counted) l
 
 module _ {W w d v : ℕ} {ws ws' : List ℕ} {a : Work} where
-  -- dest and src may have advanced together.
-  pub ran-pair : {s : ℕ} {b c : Work} (dest src : ℕ) → d + src ≡ s + dest → Found (readLE (view W ws) s w) (load w s ∷ []) v a
-      → Stored W w d v ws ws' b → c ≡ joined a b → Ran W (moving dest src) (load w s ∷ store w d ∷ []) ws ws' c
+  pub ran-pair : {s : ℕ} {b c : Work} → Found (readLE (view W ws) s w) (load w s ∷ []) v a → Stored W w d v ws ws' b
+      → c ≡ joined a b → Ran W (moving d s) (load w s ∷ store w d ∷ []) ws ws' c
   unfolding perform
-  ran-pair {s} dest src e p q r = record {
+  ran-pair {s} p q r = record {
     size = q .size;
-    performed = λ held. over-cong d w (λ x. over s w (view W ws) held ((x + src) - dest)) (laid v d) (view W ws) (same held) ∙ sym (q .bytes);
+    performed = λ held h. over-cong d w (λ x. over s w (view W ws) held ((x + s) - d)) (laid v d) (view W ws) (same held) ∙ sym (q .bytes);
+    holding = λ held h. tt;
     counted = counted-then (load w s ∷ []) (store w d ∷ []) (p .counted) (q .counted) r;
   }
     where
-      same : (held : ℕ → ℕ) (x : ℕ) → d ≤ x → x < d + w → over s w (view W ws) held ((x + src) - dest) ≡ laid v d x
+      same : (held : ℕ → ℕ) (x : ℕ) → d ≤ x → x < d + w → over s w (view W ws) held ((x + s) - d) ≡ laid v d x
       same held x l m =
-          let at : (x + src) - dest ≡ s + (x - d) = omega arith in
+          let at : (x + s) - d ≡ s + (x - d) = omega arith in
           ap (over s w (view W ws) held) at
           ∙ over-in s w (view W ws) held (s + (x - d)) (omega arith) (omega arith)
           ∙ sym (readLE-byte (view W ws) (view-lt W ws) s w (x - d) (omega arith))
           ∙ ap (λ (y : ℕ). byte y (x - d)) (sym (p .found))
 
-  pub ran-fill : (b₀ : ℕ) → ((j : ℕ) → j < w → byte v j ≡ b₀) → Stored W w d v ws ws' a
+  pub ran-fill : (b₀ : ℕ) → b₀ < 256 → v ≡ readLE (λ x. b₀) 0 w → Stored W w d v ws ws' a
       → Ran W (filling b₀) (store w d ∷ []) ws ws' a
   unfolding perform
-  ran-fill b₀ h q = record {
+  ran-fill b₀ l e q = record {
     size = q .size;
-    performed = λ held. over-cong d w (λ x. b₀) (laid v d) (view W ws) (λ x l m. sym (h (x - d) (omega arith))) ∙ sym (q .bytes);
+    performed = λ held h. over-cong d w (λ x. b₀) (laid v d) (view W ws) same ∙ sym (q .bytes);
+    holding = λ held h. tt;
     counted = q .counted;
   }
+    where
+      same : (x : ℕ) → d ≤ x → x < d + w → b₀ ≡ laid v d x
+      same x i m = sym (ap (λ (y : ℕ). byte y (x - d)) e ∙ readLE-byte (λ y. b₀) (λ y. l) 0 w (x - d) (omega arith))

@@ -5,6 +5,7 @@ pub mod Tally
 pub mod Lists
 pub mod Perform
 pub mod Ran
+pub mod Asked
 pub mod Meaning
 pub mod Refusals
 pub mod Answers

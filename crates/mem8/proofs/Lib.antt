@@ -1,0 +1,3 @@
+pub mod WordSize
+pub mod Differences
+pub mod Scanning
