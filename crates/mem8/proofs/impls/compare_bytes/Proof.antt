@@ -49,10 +49,6 @@ add-load-2 c =
 load-requires-2 : tie.Need-load-requires-2 Inv-loop μ-loop
 load-requires-2 c κs = byte-fit (c .before .before .before .before .before .pre .1) (omega arith) (omega arith)
 
-join-requires : tie.Need-join-requires Inv-loop μ-loop
-join-requires c κs =
-    joinable (load 1 _ ∷ []) (load 1 _ ∷ []) (c .before .load .ensures .counted) (c .load2 .ensures .counted) (omega arith)
-
 pair : (c : lts.After-join (zero-reads.Asked, zero-reads.Learnt, load-reads.Asked, load-reads.Learnt, join-reads.Asked, join-reads.Learnt, byte-difference-reads.Asked, byte-difference-reads.Learnt) reads.Pre reads.Post Inv-loop μ-loop)
     → PairLoaded (view W (c .before .before .before .before .before .before .before .args .mem .now)) (c .before .before .before .before .before .before .before .args .s1) (c .before .before .before .before .before .before .before .args .s2) (c .before .before .before .before .loop .i) (c .before .before .load .result .value)
     (c .before .load2 .result .value) (c .join .result)
@@ -61,6 +57,10 @@ pair c = pair-loaded _ _ _ _ (c .before .before .load .ensures) (c .before .load
 bytes : (c : lts.After-join (zero-reads.Asked, zero-reads.Learnt, load-reads.Asked, load-reads.Learnt, join-reads.Asked, join-reads.Learnt, byte-difference-reads.Asked, byte-difference-reads.Learnt) reads.Pre reads.Post Inv-loop μ-loop)
     → (c .before .before .load .result .value < 256) × (c .before .load2 .result .value < 256)
 bytes c = (rw (pair c .first) (view-lt W _ _), rw (pair c .second) (view-lt W _ _))
+
+join-requires : tie.Need-join-requires Inv-loop μ-loop
+join-requires c κs =
+    joinable (load 1 _ ∷ []) (load 1 _ ∷ []) (c .before .load .ensures .counted) (c .load2 .ensures .counted) (omega arith)
 
 join-requires-2 : tie.Need-join-requires-2 Inv-loop μ-loop
 join-requires-2 c κs =
