@@ -3,9 +3,9 @@
 use mathlib.Core.Path.{_≡_, refl, ap}
 use mathlib.Core.Bool.{Bool, true, false}
 use Prim.Native.Nat.{ℕ, _+_, _*_, _%_, _<_, _≤_}
-use native.Mathlib.Nat.{mod-one}
+use native.Mathlib.Nat.{mod-one, mod-self}
 use native.Mathlib.Omega.{arith}
-use Rattle.model.specs.Asked.{Ahead, Both, Words}
+use Rattle.model.specs.Asked.{Ahead, Both, Words, Across}
 use Rattle.model.specs.Fit.{Range, Fit}
 use Rattle.model.specs.Lists.{cursor, chunk, past}
 use Rattle.lists.proofs.Blocks.{aligned}
@@ -48,6 +48,15 @@ words-ahead up h m b e p q l w a = record { both = both-past up h e p q l b; who
 -- An access of all the bytes ahead.
 pub ahead-fit : {up : Bool} {W k c w : ℕ} → Ahead up W k c w → W % w ≡ 0 → chunk up c w % w ≡ 0 → Fit W k w (chunk up c w)
 ahead-fit h p q = record { aligned = aligned p q; range = h .range }
+
+-- The next whole word of the source, where two words are ahead and the cursor stands inside the word at b.
+pub across-fit : {W k d b o at : ℕ} (up : Bool) → Across up W k d b o (W + W) → at ≡ past up b W → at % W ≡ 0 → Fit W k W at
+across-fit {W} {k} {d} {b} {o} {at} up h e q =
+    record { aligned = aligned (mod-self W) q; range = record { few = h .words .both .src .range .few; inside = inside up h e } }
+  where
+    inside : (up : Bool) → Across up W k d b o (W + W) → at ≡ past up b W → at + W ≤ W * k
+    inside true h e = omega (arith, h .words .both .src .range .inside)
+    inside false h e = omega (arith, h .words .both .src .here, h .words .both .src .range .inside, h .less)
 
 -- An access of one byte of a range.
 pub byte-fit : {W k a n x : ℕ} → Range W k a n → a ≤ x → x < a + n → Fit W k 1 x

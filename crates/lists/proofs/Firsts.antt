@@ -38,21 +38,18 @@ first-unique t n p q a b = go (decLt p q) (decLt q p)
     go (no l) (yes m) = absurd (not-after t n q p b a m)
     go (no l) (no m) = omega arith
 
+-- Two tests with the same first place stop there.
+pub same-place : (t u : ℕ → Bool) (n m p : ℕ) → FirstAt t n p → FirstAt u m p → first t n ≡ first u m
+same-place t u n m p a b =
+    first-unique t n (first t n) p (first-exists t n) a ∙ first-unique u m p (first u m) b (first-exists u m)
+
 -- Compare and bcmp "count the same if the first difference [..] stands at the same place in both, or in neither": in two memories f
 -- and g the list is the same.
 pub same-difference : (s1 s2 n p : ℕ) (f g : ℕ → ℕ) → FirstAt (unequal s1 s2 f) n p → FirstAt (unequal s1 s2 g) n p
     → compareList s1 s2 n (difference s1 s2 n f) ≡ compareList s1 s2 n (difference s1 s2 n g)
-same-difference s1 s2 n p f g a b =
-    let place : difference s1 s2 n f ≡ difference s1 s2 n g =
-    first-unique (unequal s1 s2 f) n (difference s1 s2 n f) p (first-exists (unequal s1 s2 f) n) a
-    ∙ first-unique (unequal s1 s2 g) n p (difference s1 s2 n g) b (first-exists (unequal s1 s2 g) n) in
-    ap (λ (q : ℕ). compareList s1 s2 n q) place
+same-difference s1 s2 n p f g a b = ap (compareList s1 s2 n) (same-place (unequal s1 s2 f) (unequal s1 s2 g) n n p a b)
 
 -- And string length if the first zero does.
 pub same-zero : (s m p : ℕ) (f g : ℕ → ℕ) → FirstAt (isNull s f) m p → FirstAt (isNull s g) m p
     → stringList s m (strlen s m f) ≡ stringList s m (strlen s m g)
-same-zero s m p f g a b =
-    let place : strlen s m f ≡ strlen s m g =
-    first-unique (isNull s f) m (strlen s m f) p (first-exists (isNull s f) m) a
-    ∙ first-unique (isNull s g) m p (strlen s m g) b (first-exists (isNull s g) m) in
-    ap (λ (q : ℕ). stringList s m q) place
+same-zero s m p f g a b = ap (stringList s m) (same-place (isNull s f) (isNull s g) m m p a b)

@@ -1,18 +1,126 @@
--- Of a call that the table accepts, no line holds: its ranges lie inside the memory, and those of a copy do not overlap.
--- Assumes nothing.
-use mathlib.Core.Path.{_≡_, refl}
-use mathlib.Core.Bool.{Bool, true, false, cond}
+-- The laws of the refusal table, for any lines: a call is accepted exactly when no line holds, the first line that holds wins, and lines
+-- may be appended. Then what the tables say of a call that they accept: its ranges lie inside the memory, and those of a copy do not
+-- overlap. By induction on the lines. Assumes nothing.
+use mathlib.Core.Path.{_≡_, refl, sym, ap, _∙_}
+use mathlib.Core.Bool.{Bool, true, false, cond, not, _||_}
 use mathlib.Core.List.{List, [], _∷_, _++_}
 use Prim.Native.Nat.{ℕ, _+_, _*_, _-_, _≤_}
 use native.Mathlib.Omega.{arith}
-use borrow.Author.Tests.{ltb-false, leb-false}
+use borrow.Author.Tests.{ltb-false, leb-false, not-true}
 use Rattle.model.specs.Fit.{Range}
 use Rattle.model.specs.Memory.{mostWords}
-use Rattle.model.specs.Refusals.{Line, checked, accepts, tooLarge, overlap, rangesTable, copyTable, fillTable, startTable}
+use Rattle.model.specs.Refusals.{Line, checked, accepts, someHolds, Ruling, none, given, ruled, tooLarge, overlap, rangesTable, copyTable, fillTable, startTable}
 
 -- No test both passes and fails.
 pub not-both : (b : Bool) → b ≡ true → b ≡ false → ⊥
 not-both b p q = let clash : _≡_ {A = ℕ} 0 1 = cc in omega arith
+
+-- ---- any table
+
+-- A call is accepted exactly when no line of its table holds.
+pub accepted-exactly : (ls : List Line) → accepts ls ≡ not (someHolds ls)
+unfolding checked someHolds
+accepted-exactly [] = refl
+accepted-exactly (l ∷ ls) = go (l .holds) (accepted-exactly ls)
+  where
+    go : (b : Bool) → accepts ls ≡ not (someHolds ls) → cond b false (accepts ls) ≡ not (b || someHolds ls)
+    go true e = refl
+    go false e = e
+
+-- Lines may be appended: they are checked after the others.
+pub checked-append : {A : Type 0} (ks ls : List Line) (refused : ℕ → A) (accepted : A)
+    → checked (ks ++ ls) refused accepted ≡ checked ks refused (checked ls refused accepted)
+unfolding checked
+checked-append [] ls refused accepted = refl
+checked-append (k ∷ ks) ls refused accepted = rw (checked-append ks ls refused accepted) refl
+
+-- What is asked of the answer can be asked of each case.
+pub checked-map : {A B : Type 0} (f : A → B) (ls : List Line) (refused : ℕ → A) (accepted : A)
+    → f (checked ls refused accepted) ≡ checked ls (λ r. f (refused r)) (f accepted)
+unfolding checked
+checked-map f [] refused accepted = refl
+checked-map {A} {B} f (l ∷ ls) refused accepted = go (l .holds) (checked-map f ls refused accepted)
+  where
+    go : (b : Bool) → f (checked ls refused accepted) ≡ checked ls (λ r. f (refused r)) (f accepted)
+        → f (cond b (refused (l .number)) (checked ls refused accepted))
+        ≡ cond b (f (refused (l .number))) (checked ls (λ r. f (refused r)) (f accepted))
+    go true e = refl
+    go false e = e
+
+-- The first line that holds wins: none before it does, and nothing after it counts.
+pub first-line : {A : Type 0} (ks : List Line) (l : Line) (ls : List Line) (refused : ℕ → A) (accepted : A)
+    → someHolds ks ≡ false → l .holds ≡ true → checked (ks ++ (l ∷ ls)) refused accepted ≡ refused (l .number)
+unfolding checked someHolds
+first-line [] l ls refused accepted p q = rw q refl
+first-line (k ∷ ks) l ls refused accepted p q = go (k .holds) p (λ e. first-line ks l ls refused accepted e q)
+  where
+    go : (b : Bool) → b || someHolds ks ≡ false
+        → (someHolds ks ≡ false → checked (ks ++ (l ∷ ls)) refused accepted ≡ refused (l .number))
+        → cond b (refused (k .number)) (checked (ks ++ (l ∷ ls)) refused accepted) ≡ refused (l .number)
+    go true e later = absurd (not-both true refl e)
+    go false e later = later e
+
+-- What the checks find decides what is made of the table.
+decided : {A : Type 0} → (ℕ → A) → A → Ruling → A
+decided refused accepted none = accepted
+decided refused accepted (given r) = refused r
+
+checked-ruled : {A : Type 0} (ls : List Line) (refused : ℕ → A) (accepted : A)
+    → checked ls refused accepted ≡ decided refused accepted (ruled ls)
+unfolding checked decided
+checked-ruled [] refused accepted = refl
+checked-ruled (l ∷ ls) refused accepted = go (l .holds) (checked-ruled ls refused accepted)
+  where
+    go : (b : Bool) → checked ls refused accepted ≡ decided refused accepted (ruled ls)
+        → cond b (refused (l .number)) (checked ls refused accepted)
+        ≡ decided refused accepted (cond b (given (l .number)) (ruled ls))
+    go true e = refl
+    go false e = e
+
+pub checked-none : {A : Type 0} (ls : List Line) (refused : ℕ → A) (accepted : A) → ruled ls ≡ none
+    → checked ls refused accepted ≡ accepted
+unfolding decided
+checked-none ls refused accepted e = checked-ruled ls refused accepted ∙ ap (decided refused accepted) e
+
+pub checked-given : {A : Type 0} {r : ℕ} (ls : List Line) (refused : ℕ → A) (accepted : A) → ruled ls ≡ given r
+    → checked ls refused accepted ≡ refused r
+unfolding decided
+checked-given ls refused accepted e = checked-ruled ls refused accepted ∙ ap (decided refused accepted) e
+
+-- The checks find nothing exactly when no line holds.
+pub none-holds : (ls : List Line) → ruled ls ≡ none → someHolds ls ≡ false
+none-holds ls e = not-true (someHolds ls) (sym (accepted-exactly ls) ∙ checked-none ls (λ r. false) true e)
+
+pub holds-none : (ls : List Line) → someHolds ls ≡ false → ruled ls ≡ none
+unfolding checked someHolds
+holds-none [] e = refl
+holds-none (l ∷ ls) e = go (l .holds) e (holds-none ls)
+  where
+    go : (b : Bool) → b || someHolds ls ≡ false → (someHolds ls ≡ false → ruled ls ≡ none)
+        → cond b (given (l .number)) (ruled ls) ≡ none
+    go true e later = absurd (not-both true refl e)
+    go false e later = later e
+
+-- What the checks find goes by the first line: it holds, or the others decide.
+pub line-given : (l : Line) (ls : List Line) → l .holds ≡ true → given (l .number) ≡ ruled (l ∷ ls)
+unfolding checked
+line-given l ls e = rw e refl
+
+pub lines-passed : none ≡ ruled []
+unfolding checked
+lines-passed = refl
+
+pub line-passed : (l : Line) (ls : List Line) → l .holds ≡ false → ruled ls ≡ ruled (l ∷ ls)
+unfolding checked
+line-passed l ls e = rw e refl
+
+pub append-given : {r : ℕ} (ks ls : List Line) → ruled ks ≡ given r → given r ≡ ruled (ks ++ ls)
+append-given ks ls e = sym (checked-append ks ls given none ∙ checked-given ks given (ruled ls) e)
+
+pub append-passed : (ks ls : List Line) → ruled ks ≡ none → ruled ls ≡ ruled (ks ++ ls)
+append-passed ks ls e = sym (checked-append ks ls given none ∙ checked-none ks given (ruled ls) e)
+
+-- ---- what a table that accepts says
 
 refused-not : (b t : Bool) → cond b false t ≡ true → (b ≡ false) × (t ≡ true)
 refused-not false t e = (refl, e)

@@ -1,6 +1,6 @@
 -- What each call answers, and the words that it leaves, for all inputs: document 01's refusals, lists and meaning put together.
 -- Assumes nothing.
-use Prim.Native.Nat.{ℕ, _*_, _-_}
+use Prim.Native.Nat.{ℕ}
 use mathlib.Core.Bool.{cond}
 use mathlib.Core.List.{List, []}
 use lib.Dec.{eqb}
@@ -12,12 +12,14 @@ use Rattle.model.specs.declared.Outcome.{Outcome}
 use Rattle.model.specs.declared.Outcome.the-variants.{Address, Number, Length, Refused}
 use Rattle.model.specs.declared.Refusal.{Refusal}
 use Rattle.model.specs.declared.Refusal.the-variants.{TooLarge, FirstOutside, SecondOutside, Overlap, NoZero}
+use Rattle.model.specs.declared.Verdict.{Verdict}
+use Rattle.model.specs.declared.Verdict.the-variants.{Accept, Refuse}
 use Rattle.model.specs.Access.{Access}
 use Rattle.model.specs.Tally.{tally}
 use Rattle.model.specs.Lists.{copyList, moveList, fillList, compareList, stringList}
 use Rattle.model.specs.Memory.{view, packed}
-use Rattle.model.specs.Meaning.{memcpy, memmove, memset, memcmp, bcmp, strlen, difference}
-use Rattle.model.specs.Refusals.{checked, copyTable, rangesTable, fillTable, stringTable}
+use Rattle.model.specs.Meaning.{memcpy, memmove, memset, memcmp, bcmp, difference}
+use Rattle.model.specs.Refusals.{Ruling, none, given, checked, toEnd, zeroAt, copyTable, rangesTable, fillTable, stringTable}
 
 -- The outcome is an address, a signed number, a length or a refusal number. Each answer is an outcome together with its counts.
 pub data Said : Type 0 where
@@ -25,6 +27,13 @@ pub data Said : Type 0 where
   a-number : ℤ → Said
   a-length : ℕ → Said
   a-refusal : ℕ → Said
+
+-- The refusal that an outcome is, if it is one.
+abbrev pub refusalIn : Said → Ruling
+refusalIn (an-address a) = none
+refusalIn (a-number z) = none
+refusalIn (a-length n) = none
+refusalIn (a-refusal r) = given r
 
 pub record Reply : Type 0 where
   pub said : Said
@@ -37,6 +46,10 @@ numberOf FirstOutside = 2
 numberOf SecondOutside = 3
 numberOf Overlap = 4
 numberOf NoZero = 5
+
+abbrev pub rulingOf : Verdict → Ruling
+rulingOf Accept = none
+rulingOf (Refuse r) = given (numberOf r)
 
 abbrev pub saidOf : Outcome → Said
 saidOf (Address a) = an-address a
@@ -99,7 +112,4 @@ abbrev measuring : ℕ → List ℕ → ℕ → ℕ → List Access → Reply
 measuring W ws s z xs = checked (stringTable W ws s) (stringRefused xs) (accepted (a-length z) xs)
 
 unfoldable pub stringAnswer : ℕ → List ℕ → ℕ → Reply
-stringAnswer W ws s =
-    let m = W * length ws - s in
-    let z = strlen s m (view W ws) in
-    measuring W ws s z (stringList s m z)
+stringAnswer W ws s = measuring W ws s (zeroAt W ws s) (stringList s (toEnd W ws s) (zeroAt W ws s))

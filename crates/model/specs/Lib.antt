@@ -9,3 +9,4 @@ pub mod Asked
 pub mod Meaning
 pub mod Refusals
 pub mod Answers
+pub mod Promises

@@ -103,6 +103,26 @@ pub enum Refusal {
     NoZero,
 }
 
+impl Refusal {
+    pub fn number(self) -> u64
+        ensures { λ r. ⌜ r ≡ numberOf self ⌝ }
+    {
+        match self {
+            Refusal::TooLarge => 1,
+            Refusal::FirstOutside => 2,
+            Refusal::SecondOutside => 3,
+            Refusal::Overlap => 4,
+            Refusal::NoZero => 5,
+        }
+    }
+}
+
+// What the checks of a call find, before it makes an access.
+pub enum Verdict {
+    Accept,
+    Refuse(Refusal),
+}
+
 pub enum Outcome {
     Address(usize),
     Number(i32),

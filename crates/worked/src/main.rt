@@ -1,15 +1,17 @@
-// Document 01's worked numbers P1 to P10, as the routines themselves count them: a line for each row, and the bytes that P3 copied.
-// These routines stand below the entries, which choose among them, so each row says which one runs it.
+// Document 01's worked numbers P1 to P12, the calls that it wants run beside them, and two more: a line for each call, and the bytes that
+// P3 copied.
 use libc::STDOUT_FILENO;
-use mem8::impls::copy_backward;
-use mem8::impls::copy_forward;
-use mem8::impls::set_bytes;
-use model::Work;
+use mem8::bcmp;
+use mem8::memcmp;
+use mem8::memcpy;
+use mem8::memmove;
+use mem8::memset;
+use mem8::strlen;
+use show::print_answer;
 use words8::WORD_SIZE;
 use words8::Word;
 use words8::bytes::part;
 ghost use mathlib.Core.Path.{_≡_};
-ghost use Prim.Native.Nat.{_≤_};
 ghost use lib.ListN.{length};
 ghost use Rattle.model.specs.Fit.{Range};
 ghost use Rattle.words8.specs.Word.{W};
@@ -17,7 +19,7 @@ ghost use Rattle.words8.specs.Word.{W};
 // The memory that each row starts from and leaves: document 01's k is 16.
 type Memory = [Word; 16];
 
-// The byte at each address is that address, so that a copied byte shows where it stood.
+// The byte at each address is that address, so that a copied byte shows where it stood, and the only zero stands at 0.
 fn fresh() -> Memory
     ensures { λ r. ⌜ length r ≡ 16 ⌝ }
 {
@@ -31,35 +33,11 @@ fn fresh() -> Memory
     memory
 }
 
-// The counts of 1, 2, 4 and 8 bytes, which stand from place `first` on: 0 for the loads, 4 for the stores.
-fn print_counts(numbers: [u64; 8], first: usize)
-    requires { ⌜ first ≤ 4 ⌝ }
-{
-    io::print_decimal(STDOUT_FILENO, numbers[first]);
-    let mut i = first + 1;
-    while i < first + 4 {
-        io::write_all(STDOUT_FILENO, b"/");
-        io::print_decimal(STDOUT_FILENO, numbers[i]);
-        i += 1;
-    }
-}
-
-fn print_work(row: &[u8], work: Work) {
-    let counts = work.counts;
-    let numbers = counts.numbers;
-    io::write_all(STDOUT_FILENO, row);
-    io::write_all(STDOUT_FILENO, b" loads ");
-    print_counts(numbers, 0);
-    io::write_all(STDOUT_FILENO, b" stores ");
-    print_counts(numbers, 4);
-    io::write_all(STDOUT_FILENO, b"\n");
-}
-
 // The `n` bytes from address 0 on.
-fn print_bytes(row: &[u8], memory: Memory, n: usize)
+fn print_bytes(name: &[u8], memory: Memory, n: usize)
     requires { ⌜ Range W 16 0 n ⌝ }
 {
-    io::write_all(STDOUT_FILENO, row);
+    io::write_all(STDOUT_FILENO, name);
     io::write_all(STDOUT_FILENO, b" bytes");
     let mut at = 0;
     while at < n {
@@ -72,44 +50,79 @@ fn print_bytes(row: &[u8], memory: Memory, n: usize)
 }
 
 // Hands back the memory, since the bytes of one row are shown too.
-fn forward_row(row: &[u8], dest: usize, src: usize, n: usize) -> Memory
-    requires { ⌜ (Range W 16 dest n) × (Range W 16 src n) ⌝ }
-{
+fn copy_row(name: &[u8], dest: usize, src: usize, n: usize) -> Memory {
     let mut memory = fresh();
-    let work = copy_forward(&mut memory, dest, src, n);
-    print_work(row, work);
+    print_answer(name, memcpy(&mut memory, dest, src, n));
     memory
 }
 
-fn backward_row(row: &[u8], dest: usize, src: usize, n: usize)
-    requires { ⌜ (Range W 16 dest n) × (Range W 16 src n) ⌝ }
-{
+// No words are lent.
+fn empty_row(name: &[u8]) {
     let mut memory = fresh();
-    let work = copy_backward(&mut memory, dest, src, n);
-    print_work(row, work);
+    print_answer(name, memcpy(&mut memory[0..0], 0, 0, 0));
+}
+
+fn move_row(name: &[u8], dest: usize, src: usize, n: usize) {
+    let mut memory = fresh();
+    print_answer(name, memmove(&mut memory, dest, src, n));
 }
 
 // The byte is 0, and no count depends on it.
-fn fill_row(row: &[u8], s: usize, n: usize)
-    requires { ⌜ Range W 16 s n ⌝ }
+fn fill_row(name: &[u8], s: usize, n: usize) {
+    let mut memory = fresh();
+    print_answer(name, memset(&mut memory, s, 0, n));
+}
+
+// The least byte at address 0 and the greatest at 8.
+fn extremes() -> Memory
+    ensures { λ r. ⌜ length r ≡ 16 ⌝ }
 {
     let mut memory = fresh();
-    let work = set_bytes(&mut memory, s, 0, n);
-    print_work(row, work);
+    memset(&mut memory, 0, 0, 1);
+    memset(&mut memory, 8, -1, 1);
+    memory
+}
+
+fn compare_row(name: &[u8]) {
+    let memory = extremes();
+    print_answer(name, memcmp(&memory, 0, 8, 1));
+}
+
+fn bcmp_row(name: &[u8]) {
+    let memory = extremes();
+    print_answer(name, bcmp(&memory, 0, 8, 1));
+}
+
+fn string_row(name: &[u8], s: usize) {
+    let memory = fresh();
+    print_answer(name, strlen(&memory, s));
+}
+
+fn worked_rows() {
+    copy_row(b"P1", 0, 32, 15);
+    copy_row(b"P2", 0, 32, 16);
+    let memory = copy_row(b"P3", 0, 33, 16);
+    print_bytes(b"P3", memory, 16);
+    copy_row(b"P4", 3, 40, 30);
+    copy_row(b"P5", 1, 40, 30);
+    move_row(b"P6", 8, 8, 0);
+    move_row(b"P7", 8, 8, 16);
+    move_row(b"P8", 9, 8, 16);
+    move_row(b"P9", 8, 9, 16);
+    fill_row(b"P10", 1, 16);
+    compare_row(b"P11");
+    string_row(b"P12", 128);
 }
 
 fn main() {
-    // Copy is forward.
-    forward_row(b"P1", 0, 32, 15);
-    forward_row(b"P2", 0, 32, 16);
-    let memory = forward_row(b"P3", 0, 33, 16);
-    print_bytes(b"P3", memory, 16);
-    forward_row(b"P4", 3, 40, 30);
-    forward_row(b"P5", 1, 40, 30);
-    // Move is forward in P6, which has no bytes, and in P9, whose destination is below its source; else backward.
-    forward_row(b"P6", 8, 8, 0);
-    backward_row(b"P7", 8, 8, 16);
-    backward_row(b"P8", 9, 8, 16);
-    forward_row(b"P9", 8, 9, 16);
-    fill_row(b"P10", 1, 16);
+    worked_rows();
+    // Document 01's "also run".
+    empty_row(b"empty");
+    copy_row(b"overlap", 0, 0, 1);
+    copy_row(b"far", usize::MAX, 0, 1);
+    copy_row(b"both", 128, 136, 8);
+    string_row(b"zero", 0);
+    // The refusal that counts what it read, and bcmp, which is to answer as P11 does.
+    string_row(b"no-zero", 1);
+    bcmp_row(b"bcmp");
 }

@@ -6,10 +6,10 @@ use Rattle.worked.proofs.print_bytes.Statement.{statement}
 use Rattle.worked.proofs.print_bytes.Tie as tie
 
 abbrev Inv-loop : tie.InvT-loop
-Inv-loop row n memory at₀ t8 t9 at = Unit {0}
+Inv-loop name n memory at₀ t8 t9 at = Unit {0}
 
 abbrev μ-loop : tie.MeasureT-loop
-μ-loop row n memory at₀ t8 t9 at = n - at
+μ-loop name n memory at₀ t8 t9 at = n - at
 
 write-all-requires : tie.Need-write-all-requires Inv-loop μ-loop
 write-all-requires c κs = search needs

@@ -1,0 +1,49 @@
+-- `mem8::checks::check_copy`: the table of two ranges, and then line 4.
+-- Assumes nothing.
+use mathlib.Core.Path.{sym, ap, _∙_}
+use Rattle.model.specs.Answers.{rulingOf}
+use Rattle.model.specs.Refusals.{copyTable}
+use Rattle.model.proofs.RefusalLaws.{line-given, line-passed, lines-passed, append-given, append-passed}
+use borrow.Author.Needs.{needs}
+use Rattle.mem8.proofs.checks.check_copy.Statement.{statement}
+use Rattle.mem8.proofs.checks.check_copy.Tie as tie
+
+check-ranges-requires : tie.Need-check-ranges-requires
+check-ranges-requires c κs = search needs
+
+enum-known-why : tie.Need-enum-known-why
+enum-known-why c = search needs
+
+returns : tie.Need-returns
+unfolding copyTable
+returns c = append-given _ _ (sym (c .before .before .before .check-ranges .ensures) ∙ ap rulingOf (c .before .why .given .1))
+
+enum-told : tie.Need-enum-told
+enum-told c = search needs
+
+overlaps-requires : tie.Need-overlaps-requires
+overlaps-requires c κs = search needs
+
+returns-2 : tie.Need-returns-2
+unfolding copyTable
+returns-2 c =
+    line-given _ _ (sym (c .before .overlaps .ensures) ∙ c .if1 .taken)
+    ∙ append-passed _ _ (sym (c .before .before .before .before .check-ranges .ensures) ∙ ap rulingOf (c .before .before .enum-told .given .1))
+
+returns-3 : tie.Need-returns-3
+unfolding copyTable
+returns-3 c =
+    lines-passed ∙ line-passed _ _ (sym (c .before .overlaps .ensures) ∙ c .if1 .left)
+    ∙ append-passed _ _ (sym (c .before .before .before .before .check-ranges .ensures) ∙ ap rulingOf (c .before .before .enum-told .given .1))
+
+pub check-copy-spec : {M : Type 1} → statement M
+check-copy-spec =
+    tie.close
+    (tie.spec
+    check-ranges-requires
+    enum-known-why
+    returns
+    enum-told
+    overlaps-requires
+    returns-2
+    returns-3)

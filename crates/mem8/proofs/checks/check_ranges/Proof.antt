@@ -1,0 +1,51 @@
+-- `mem8::checks::check_ranges`: the lines of the first range, and then line 3.
+-- Assumes nothing.
+use mathlib.Core.Path.{_≡_, sym, ap, _∙_}
+use mathlib.Core.List.{[], _∷_}
+use native.Mathlib.Omega.{arith}
+use borrow.Author.Needs.{needs}
+use Rattle.model.specs.Answers.{rulingOf}
+use Rattle.model.specs.Refusals.{none, ruled, rangesTable, fillTable}
+use Rattle.model.proofs.RefusalLaws.{append-given, append-passed}
+use Rattle.words8.specs.Word.{W}
+use Rattle.promises.proofs.Kept.{fill-asks}
+use Rattle.mem8.proofs.checks.check_ranges.Statement.{statement}
+use Rattle.mem8.proofs.checks.check_ranges.Tie as tie
+use Rattle.mem8.proofs.checks.check_ranges.Reads as reads
+use Rattle.mem8.proofs.checks.check_ranges.Lts as lts
+use Rattle.mem8.proofs.checks.check_inside.Reads as check-inside-reads
+use Rattle.mem8.proofs.checks.check_range.Reads as check-range-reads
+
+-- Where the first range passes, none of its lines holds.
+passed : (c : lts.After-enum-told (check-range-reads.Asked, check-range-reads.Learnt, check-inside-reads.Asked, check-inside-reads.Learnt) reads.Pre reads.Post)
+    → ruled (fillTable W (c .before .before .before .args .k) (c .before .before .before .args .first) (c .before .before .before .args .n)) ≡ none
+unfolding fillTable
+passed c = sym (c .before .before .check-range .ensures) ∙ ap rulingOf (c .enum-told .given .1)
+
+check-range-requires : tie.Need-check-range-requires
+check-range-requires c κs = search needs
+
+enum-known-why : tie.Need-enum-known-why
+enum-known-why c = search needs
+
+returns : tie.Need-returns
+unfolding rangesTable
+returns c = append-given (_ ∷ _ ∷ []) (_ ∷ []) (sym (c .before .before .before .check-range .ensures) ∙ ap rulingOf (c .before .why .given .1))
+
+enum-told : tie.Need-enum-told
+enum-told c = search needs
+
+mul-check-inside : tie.Need-mul-check-inside
+mul-check-inside c = omega (arith, fill-asks W (c .before .before .before .args .k) (c .before .before .before .args .first) (c .before .before .before .args .n) (passed c) .few)
+
+check-inside-requires : tie.Need-check-inside-requires
+check-inside-requires c κs = search needs
+
+returns-2 : tie.Need-returns-2
+unfolding rangesTable fillTable
+returns-2 c = c .check-inside .ensures ∙ append-passed (_ ∷ _ ∷ []) (_ ∷ []) (passed (c .before))
+
+pub check-ranges-spec : {M : Type 1} → statement M
+check-ranges-spec =
+    tie.close
+    (tie.spec check-range-requires enum-known-why returns enum-told mul-check-inside check-inside-requires returns-2)

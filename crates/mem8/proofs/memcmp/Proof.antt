@@ -1,0 +1,57 @@
+-- `mem8::memcmp`: refused by its table, or its list is C's memcmp up to the first difference (`compare-kept`).
+-- Assumes nothing.
+use mathlib.Core.Path.{sym, ap, _∙_}
+use lib.IntN.{ℤ}
+use lib.ListN.{length}
+use mir.Facts.{toZ-ofZ}
+use mir.Syntax.{w32}
+use Rattle.model.specs.Answers.{a-number, replied, rulingOf}
+use Rattle.words8.specs.Word.{W}
+use Rattle.promises.proofs.Kept.{ranges-ask, compare-refused, compare-kept}
+use borrow.Author.Needs.{needs}
+use Rattle.mem8.proofs.memcmp.Statement.{statement}
+use Rattle.mem8.proofs.memcmp.Tie as tie
+
+check-ranges-requires : tie.Need-check-ranges-requires
+check-ranges-requires c κs = search needs
+
+enum-known-why : tie.Need-enum-known-why
+enum-known-why c = search needs
+
+refused-requires : tie.Need-refused-requires
+refused-requires c κs = search needs
+
+returns : tie.Need-returns
+returns c =
+    compare-refused W (c .before .before .before .before .before .before .args .s1) (c .before .before .before .before .before .before .args .s2) (c .before .before .before .before .before .before .args .n)
+    (sym (c .before .before .before .before .check-ranges .ensures) ∙ ap rulingOf (c .before .before .why .given .1)) (c .refused .ensures)
+
+enum-told : tie.Need-enum-told
+enum-told c = search needs
+
+compare-bytes-requires : tie.Need-compare-bytes-requires
+compare-bytes-requires c κs =
+    ranges-ask W (length (c .before .before .before .before .args .mem .now)) (c .before .before .before .before .args .s1) (c .before .before .before .before .args .s2) (c .before .before .before .before .args .n)
+    (sym (c .before .before .check-ranges .ensures) ∙ ap rulingOf (c .enum-told .given .1))
+
+new-requires : tie.Need-new-requires
+new-requires c κs = search needs
+
+returns-2 : tie.Need-returns-2
+returns-2 c =
+    compare-kept W (c .before .before .before .before .before .before .before .args .s1) (c .before .before .before .before .before .before .before .args .s2) (c .before .before .before .before .before .before .before .args .n)
+    (sym (c .before .before .before .before .before .check-ranges .ensures) ∙ ap rulingOf (c .before .before .before .enum-told .given .1)) (c .before .before .compare-bytes .ensures)
+    (c .new .ensures ∙ ap (λ (z : ℤ). replied (a-number z) (c .before .before .compare-bytes .result .work)) (toZ-ofZ {w = w32} (record { sfits = c .before .struct-told .given .0 .1 })))
+
+pub memcmp-spec : {M : Type 1} → statement M
+memcmp-spec =
+    tie.close
+    (tie.spec
+    check-ranges-requires
+    enum-known-why
+    refused-requires
+    returns
+    enum-told
+    compare-bytes-requires
+    new-requires
+    returns-2)

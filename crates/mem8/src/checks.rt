@@ -1,0 +1,75 @@
+// The refusals of document 01 that are known from the number of words, addresses and length, in the order of its table.
+use model::Refusal;
+use model::Verdict;
+use words8::WORD_SIZE;
+ghost use mathlib.Core.Path.{_≡_};
+ghost use mathlib.Core.List.{[], _∷_};
+ghost use Prim.Native.Nat.{_+_, _*_};
+ghost use lib.Dec.{ltb};
+ghost use Rattle.model.specs.Answers.{rulingOf, numberOf};
+ghost use Rattle.model.specs.Refusals.{ruled, tooLarge, outside, overlap, rangesTable, copyTable};
+ghost use Rattle.words8.specs.Word.{W};
+
+// The most words that may be lent: 65,536 bytes of them.
+const MOST_WORDS: usize = 65536 / WORD_SIZE;
+
+// address + n > M. The length is held against what is left of the memory, so that nothing can wrap.
+fn leaves(bytes: usize, address: usize, n: usize) -> bool
+    ensures { λ r. ⌜ r ≡ ltb bytes (address + n) ⌝ }
+{
+    address > bytes || n > bytes - address
+}
+
+// 2 or 3, as `why` has it.
+fn check_inside(bytes: usize, address: usize, n: usize, why: Refusal) -> Verdict
+    ensures { λ r. ⌜ rulingOf r ≡ ruled (outside (numberOf why) bytes address n ∷ []) ⌝ }
+{
+    if leaves(bytes, address, n) {
+        return Verdict::Refuse(why);
+    }
+    Verdict::Accept
+}
+
+// 1, and then the range.
+pub fn check_range(k: usize, address: usize, n: usize, why: Refusal) -> Verdict
+    ensures { λ r. ⌜ rulingOf r ≡ ruled (tooLarge W k ∷ outside (numberOf why) (W * k) address n ∷ []) ⌝ }
+{
+    if k > MOST_WORDS {
+        return Verdict::Refuse(Refusal::TooLarge);
+    }
+    check_inside(WORD_SIZE * k, address, n, why)
+}
+
+// 1, 2 and 3.
+pub fn check_ranges(k: usize, first: usize, second: usize, n: usize) -> Verdict
+    ensures { λ r. ⌜ rulingOf r ≡ ruled (rangesTable W k first second n) ⌝ }
+{
+    if let Verdict::Refuse(why) = check_range(k, first, n, Refusal::FirstOutside) {
+        return Verdict::Refuse(why);
+    }
+    check_inside(WORD_SIZE * k, second, n, Refusal::SecondOutside)
+}
+
+// n > 0 and dest < src + n and src < dest + n: the ranges begin less than n apart.
+fn overlaps(dest: usize, src: usize, n: usize) -> bool
+    ensures { λ r. ⌜ r ≡ overlap dest src n .holds ⌝ }
+{
+    if dest < src {
+        src - dest < n
+    } else {
+        dest - src < n
+    }
+}
+
+// 1, 2, 3 and 4.
+pub fn check_copy(k: usize, dest: usize, src: usize, n: usize) -> Verdict
+    ensures { λ r. ⌜ rulingOf r ≡ ruled (copyTable W k dest src n) ⌝ }
+{
+    if let Verdict::Refuse(why) = check_ranges(k, dest, src, n) {
+        return Verdict::Refuse(why);
+    }
+    if overlaps(dest, src, n) {
+        return Verdict::Refuse(Refusal::Overlap);
+    }
+    Verdict::Accept
+}
