@@ -1,8 +1,8 @@
 -- What string length says of a scan.
 -- Assumes nothing.
 use Rattle.model.specs.Answers.{Said, a-length, a-refusal}
-use Rattle.impls8.specs.declared.Scan.{Scan}
-use Rattle.impls8.specs.declared.Scan.the-variants.{Length, NoZero}
+use Rattle.scans8.specs.declared.Scan.{Scan}
+use Rattle.scans8.specs.declared.Scan.the-variants.{Length, NoZero}
 
 -- The length, or refusal 5.
 abbrev pub scanSaid : Scan → Said

@@ -1,21 +1,21 @@
-// The six calls of mod.rs, in its order and under its names, over lent words of 64 bits. Each checks its input, and then does what
+// The six calls of mod.rs, in its order and under its names, over lent words. Each checks its input, and then does what
 // mod.rs does. None asks anything of its caller.
 mod checks;
 
 use crate::checks::check_copy;
 use crate::checks::check_range;
 use crate::checks::check_ranges;
-use impls8::Scan;
-use impls8::c_string_length;
-use impls8::compare_bytes;
-use impls8::copy_backward;
-use impls8::copy_forward;
-use impls8::set_bytes;
+use copies8::copy_backward;
+use copies8::copy_forward;
+use fills8::set_bytes;
 use model::Answer;
 use model::Outcome;
 use model::Refusal;
 use model::Verdict;
 use model::Work;
+use scans8::Scan;
+use scans8::c_string_length;
+use scans8::compare_bytes;
 use words8::Word;
 ghost use mathlib.Core.Path.{_≡_};
 ghost use lib.ListN.{length};

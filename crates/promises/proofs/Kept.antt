@@ -15,7 +15,7 @@ use Rattle.model.specs.declared.Work.{Work}
 use Rattle.model.specs.Access.{Access}
 use Rattle.model.specs.Answers.{Said, Reply, an-address, a-number, a-length, a-refusal, answered, replied, accepted, refused, copyAnswer, moveAnswer, fillAnswer, compareAnswer, stringAnswer, copyWords, moveWords, fillWords}
 use Rattle.model.specs.Fit.{Range}
-use Rattle.model.specs.Lists.{copyList, moveList, fillList, compareList, stringList}
+use Rattle.model.specs.Lists.{along, copyList, upward, moveList, fillList, compareList, stringList}
 use Rattle.model.specs.Meaning.{memcpy, memmove, memset, memcmp, difference, isNull}
 use Rattle.model.specs.Memory.{byteOf, view, packed}
 use Rattle.model.specs.Perform.{State, perform, moving, filling}
@@ -88,6 +88,11 @@ unfolding copyAnswer copyWords
 copy-kept {W} {ws = ws} p dest src n h e ran a =
     let apart = copy-accepted W (length ws) dest src n (checked-none _ _ _ e) .1 in
     accepted-kept ws _ _ _ e (a ∙ ap (replied (an-address dest)) (ran .counted)) (left-words (memcpy dest src n) h ran (copy-performed p dest src n apart))
+
+-- The direction that was taken is the move's.
+pub direction-taken : {W : ℕ} {ws ws' : List ℕ} {work : Work} (dest src n : ℕ) (up : Bool) → upward dest src n ≡ up
+    → Ran W (moving dest src) (along up W dest src n) ws ws' work → Ran W (moving dest src) (moveList W dest src n) ws ws' work
+direction-taken dest src n up e ran = rw e ran
 
 pub move-refused : {r : Answer} {ws : List ℕ} {i : ℕ} (W dest src n : ℕ) → ruled (rangesTable W (length ws) dest src n) ≡ given i
     → answered r ≡ refused i → MovePromise W ws dest src n r ws

@@ -12,6 +12,24 @@ use borrow.Author.Needs.{needs}
 use Rattle.mem8.proofs.memcmp.Statement.{statement}
 use Rattle.mem8.proofs.memcmp.Tie as tie
 
+returns : tie.Need-returns
+returns c =
+    let checked = c .before .before .before .before in
+    let start = checked .before .before .args in
+    compare-refused W (start .s1) (start .s2) (start .n)
+    (sym (checked .check-ranges .ensures) ∙ ap rulingOf (c .before .before .why .given .1)) (c .refused .ensures)
+
+returns-2 : tie.Need-returns-2
+returns-2 c =
+    let made = c .before .before in
+    let checked = made .before .before .before in
+    let start = checked .before .before .args in
+    compare-kept W (start .s1) (start .s2) (start .n)
+    (sym (checked .check-ranges .ensures) ∙ ap rulingOf (made .before .enum-told .given .1)) (made .compare-bytes .ensures)
+    (c .new .ensures
+    ∙ ap (λ (z : ℤ). replied (a-number z) (made .compare-bytes .result .work))
+    (toZ-ofZ {w = w32} (record { sfits = c .before .struct-told .given .0 .1 })))
+
 check-ranges-requires : tie.Need-check-ranges-requires
 check-ranges-requires c κs = search needs
 
@@ -21,27 +39,18 @@ enum-known-why c = search needs
 refused-requires : tie.Need-refused-requires
 refused-requires c κs = search needs
 
-returns : tie.Need-returns
-returns c =
-    compare-refused W (c .before .before .before .before .before .before .args .s1) (c .before .before .before .before .before .before .args .s2) (c .before .before .before .before .before .before .args .n)
-    (sym (c .before .before .before .before .check-ranges .ensures) ∙ ap rulingOf (c .before .before .why .given .1)) (c .refused .ensures)
-
 enum-told : tie.Need-enum-told
 enum-told c = search needs
 
 compare-bytes-requires : tie.Need-compare-bytes-requires
 compare-bytes-requires c κs =
-    ranges-ask W (length (c .before .before .before .before .args .mem .now)) (c .before .before .before .before .args .s1) (c .before .before .before .before .args .s2) (c .before .before .before .before .args .n)
-    (sym (c .before .before .check-ranges .ensures) ∙ ap rulingOf (c .enum-told .given .1))
+    let checked = c .before .before in
+    let start = checked .before .before .args in
+    ranges-ask W (length (start .mem .now)) (start .s1) (start .s2) (start .n)
+    (sym (checked .check-ranges .ensures) ∙ ap rulingOf (c .enum-told .given .1))
 
 new-requires : tie.Need-new-requires
 new-requires c κs = search needs
-
-returns-2 : tie.Need-returns-2
-returns-2 c =
-    compare-kept W (c .before .before .before .before .before .before .before .args .s1) (c .before .before .before .before .before .before .before .args .s2) (c .before .before .before .before .before .before .before .args .n)
-    (sym (c .before .before .before .before .before .check-ranges .ensures) ∙ ap rulingOf (c .before .before .before .enum-told .given .1)) (c .before .before .compare-bytes .ensures)
-    (c .new .ensures ∙ ap (λ (z : ℤ). replied (a-number z) (c .before .before .compare-bytes .result .work)) (toZ-ofZ {w = w32} (record { sfits = c .before .struct-told .given .0 .1 })))
 
 pub memcmp-spec : {M : Type 1} → statement M
 memcmp-spec =

@@ -1,18 +1,63 @@
 -- `mem8::memset`: refused by its table, or its list is performed with the byte c mod 256, which is C's memset (`fill-kept`).
 -- Assumes nothing.
-use mathlib.Core.Path.{sym, ap, _∙_}
+use mathlib.Core.Path.{_≡_, sym, ap, _∙_}
 use native.Mathlib.Omega.{arith}
 use lib.ListN.{length}
 use mir.Facts.{toZ-ofZ}
 use Rattle.model.specs.Answers.{rulingOf}
 use Rattle.model.specs.Memory.{byteOf}
-use Rattle.model.specs.Refusals.{fillTable}
+use Rattle.model.specs.Refusals.{ruled, fillTable}
 use Rattle.words8.specs.Word.{W}
 use Rattle.promises.proofs.Kept.{fill-asks, fill-refused, fill-kept}
-use Rattle.impls8.proofs.WordSize.{core}
+use Rattle.words8.proofs.WordSize.{core}
 use borrow.Author.Needs.{needs}
 use Rattle.mem8.proofs.memset.Statement.{statement}
 use Rattle.mem8.proofs.memset.Tie as tie
+use Rattle.mem8.proofs.memset.Reads as reads
+use Rattle.mem8.proofs.memset.Lts as lts
+use Rattle.fills8.proofs.set_bytes.Reads as set-bytes-reads
+use Rattle.mem8.proofs.checks.check_range.Reads as check-range-reads
+use Rattle.mem8.proofs.fill_byte.Reads as fill-byte-reads
+use Rattle.model.proofs.Answer.new.Reads as new-reads
+use Rattle.model.proofs.Answer.refused.Reads as refused-reads
+
+abbrev Checked : Type 0
+Checked =
+    lts.After-check-range (
+      check-range-reads.Asked,
+      check-range-reads.Learnt,
+      refused-reads.Asked,
+      refused-reads.Learnt,
+      fill-byte-reads.Asked,
+      fill-byte-reads.Learnt,
+      set-bytes-reads.Asked,
+      set-bytes-reads.Learnt,
+      new-reads.Asked,
+      new-reads.Learnt,
+    ) reads.Pre reads.Post
+
+-- What was checked is a fill's table.
+ranged : (c : Checked) → rulingOf (c .check-range .result)
+    ≡ ruled (fillTable W (length (c .before .before .args .mem .now)) (c .before .before .args .s) (c .before .before .args .n))
+unfolding fillTable
+ranged c = c .check-range .ensures
+
+returns : tie.Need-returns
+returns c =
+    let checked = c .before .before .before .before in
+    let start = checked .before .before .args in
+    fill-refused W (start .s) (start .c) (start .n)
+    (sym (ranged checked) ∙ ap rulingOf (c .before .before .why .given .1)) (c .refused .ensures)
+
+returns-2 : tie.Need-returns-2
+returns-2 c =
+    let made = c .before .before .before in
+    let passed = made .before .before .before in
+    let checked = passed .before .before in
+    let start = checked .before .before in
+    fill-kept core (start .args .s) (start .args .c) (start .args .n) (λ i. omega (arith, c .before .slice-known2 .given i))
+    (sym (ranged checked) ∙ ap rulingOf (passed .enum-told .given .1))
+    (made .before .fill-byte .ensures ∙ ap byteOf (toZ-ofZ (start .fits .c))) (made .set-bytes .ensures) (c .new .ensures)
 
 check-range-requires : tie.Need-check-range-requires
 check-range-requires c κs = search needs
@@ -23,12 +68,6 @@ enum-known-why c = search needs
 refused-requires : tie.Need-refused-requires
 refused-requires c κs = search needs
 
-returns : tie.Need-returns
-unfolding fillTable
-returns c =
-    fill-refused W (c .before .before .before .before .before .before .args .s) (c .before .before .before .before .before .before .args .c) (c .before .before .before .before .before .before .args .n)
-    (sym (c .before .before .before .before .check-range .ensures) ∙ ap rulingOf (c .before .before .why .given .1)) (c .refused .ensures)
-
 enum-told : tie.Need-enum-told
 enum-told c = search needs
 
@@ -36,23 +75,17 @@ fill-byte-requires : tie.Need-fill-byte-requires
 fill-byte-requires c κs = search needs
 
 set-bytes-requires : tie.Need-set-bytes-requires
-unfolding fillTable
 set-bytes-requires c κs =
-    fill-asks W (length (c .before .before .before .before .before .before .args .mem .now)) (c .before .before .before .before .before .before .args .s) (c .before .before .before .before .before .before .args .n)
-    (sym (c .before .before .before .before .check-range .ensures) ∙ ap rulingOf (c .before .before .enum-told .given .1))
+    let checked = c .before .before .before .before in
+    let start = checked .before .before .args in
+    fill-asks W (length (start .mem .now)) (start .s) (start .n)
+    (sym (ranged checked) ∙ ap rulingOf (c .before .before .enum-told .given .1))
 
 new-requires : tie.Need-new-requires
 new-requires c κs = search needs
 
 same-length : tie.Need-same-length
 same-length c = search needs
-
-returns-2 : tie.Need-returns-2
-unfolding fillTable
-returns-2 c =
-    fill-kept core (c .before .before .before .before .before .before .before .before .before .before .args .s) (c .before .before .before .before .before .before .before .before .before .before .args .c) (c .before .before .before .before .before .before .before .before .before .before .args .n) (λ i. omega (arith, c .before .slice-known2 .given i))
-    (sym (c .before .before .before .before .before .before .before .before .check-range .ensures) ∙ ap rulingOf (c .before .before .before .before .before .before .enum-told .given .1)) (c .before .before .before .before .fill-byte .ensures ∙ ap byteOf (toZ-ofZ (c .before .before .before .before .before .before .before .before .before .before .fits .c)))
-    (c .before .before .before .set-bytes .ensures) (c .new .ensures)
 
 pub memset-spec : {M : Type 1} → statement M
 memset-spec =

@@ -1,12 +1,25 @@
+-- `mem8::move_bytes` performs the list of a move: the direction is the definition's (`direction-taken`).
+-- Assumes nothing.
 use mathlib.Core.Path.{sym, _∙_}
+use mathlib.Core.Bool.{true, false}
 use borrow.Author.Needs.{needs}
+use Rattle.promises.proofs.Kept.{direction-taken}
 use Rattle.mem8.proofs.move_bytes.Statement.{statement}
 use Rattle.mem8.proofs.move_bytes.Tie as tie
-use Rattle.mem8.proofs.move_bytes.Reads as reads
-use Rattle.mem8.proofs.move_bytes.Lts as lts
-use Rattle.impls8.proofs.copy_backward.Reads as copy-backward-reads
-use Rattle.impls8.proofs.copy_forward.Reads as copy-forward-reads
-use Rattle.mem8.proofs.forward.Reads as forward-reads
+
+returns : tie.Need-returns
+returns c =
+    let tested = c .before .before .before .before in
+    let start = tested .before .before .before .args in
+    direction-taken (start .dest) (start .src) (start .n) true (sym (tested .before .forward .ensures) ∙ tested .if1 .taken)
+    (c .before .before .copy-forward .ensures)
+
+returns-2 : tie.Need-returns-2
+returns-2 c =
+    let tested = c .before .before .before .before in
+    let start = tested .before .before .before .args in
+    direction-taken (start .dest) (start .src) (start .n) false (sym (tested .before .forward .ensures) ∙ tested .if1 .left)
+    (c .before .before .copy-backward .ensures)
 
 forward-requires : tie.Need-forward-requires
 forward-requires c κs = search needs
@@ -20,14 +33,8 @@ copy-backward-requires c κs = search needs
 same-length : tie.Need-same-length
 same-length c = search needs
 
-returns : tie.Need-returns
-returns c = rw (sym (c .before .before .before .before .before .forward .ensures) ∙ c .before .before .before .before .if1 .taken) (c .before .before .copy-forward .ensures)
-
 same-length-2 : tie.Need-same-length-2
 same-length-2 c = search needs
-
-returns-2 : tie.Need-returns-2
-returns-2 c = rw (sym (c .before .before .before .before .before .forward .ensures) ∙ c .before .before .before .before .if1 .left) (c .before .before .copy-backward .ensures)
 
 pub move-bytes-spec : {M : Type 1} → statement M
 move-bytes-spec =

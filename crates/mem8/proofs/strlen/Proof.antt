@@ -10,14 +10,14 @@ use Rattle.model.specs.Answers.{rulingOf, a-length, a-refusal}
 use Rattle.model.specs.Refusals.{ruled, toEnd, zeroAt, fillTable, startTable}
 use Rattle.words8.specs.Word.{W}
 use Rattle.promises.proofs.Kept.{start-range, string-asks, string-refused, string-kept}
-use Rattle.impls8.specs.declared.Scan.the-variants.{Length, NoZero}
-use Rattle.impls8.specs.Scans.{scanOf}
+use Rattle.scans8.specs.declared.Scan.the-variants.{Length, NoZero}
+use Rattle.scans8.specs.Scans.{scanOf}
 use Rattle.mem8.specs.Scanned.{scanSaid}
 use Rattle.mem8.proofs.strlen.Statement.{statement}
 use Rattle.mem8.proofs.strlen.Tie as tie
 use Rattle.mem8.proofs.strlen.Reads as reads
 use Rattle.mem8.proofs.strlen.Lts as lts
-use Rattle.impls8.proofs.c_string_length.Reads as c-string-length-reads
+use Rattle.scans8.proofs.c_string_length.Reads as c-string-length-reads
 use Rattle.mem8.proofs.checks.check_range.Reads as check-range-reads
 use Rattle.mem8.proofs.scan_outcome.Reads as scan-outcome-reads
 use Rattle.model.proofs.Answer.new.Reads as new-reads
@@ -31,11 +31,45 @@ scan-said z m = go (ltb z m)
     go true = refl
     go false = refl
 
+abbrev Checked : Type 0
+Checked =
+    lts.After-check-range (
+      check-range-reads.Asked,
+      check-range-reads.Learnt,
+      refused-reads.Asked,
+      refused-reads.Learnt,
+      c-string-length-reads.Asked,
+      c-string-length-reads.Learnt,
+      scan-outcome-reads.Asked,
+      scan-outcome-reads.Learnt,
+      new-reads.Asked,
+      new-reads.Learnt,
+    ) reads.Pre reads.Post
+
 -- What was checked is the start.
-started : (c : lts.After-check-range (check-range-reads.Asked, check-range-reads.Learnt, refused-reads.Asked, refused-reads.Learnt, c-string-length-reads.Asked, c-string-length-reads.Learnt, scan-outcome-reads.Asked, scan-outcome-reads.Learnt, new-reads.Asked, new-reads.Learnt) reads.Pre reads.Post)
+started : (c : Checked)
     → rulingOf (c .check-range .result) ≡ ruled (startTable W (length (c .before .before .args .mem .now)) (c .before .before .args .s))
 unfolding fillTable
 started c = c .check-range .ensures ∙ start-range W (length (c .before .before .args .mem .now)) (c .before .before .args .s)
+
+returns : tie.Need-returns
+returns c =
+    let checked = c .before .before .before .before in
+    string-refused W (checked .before .before .args .s) (sym (started checked) ∙ ap rulingOf (c .before .before .why .given .1))
+    (c .refused .ensures)
+
+returns-2 : tie.Need-returns-2
+returns-2 c =
+    let made = c .before .before in
+    let checked = made .before .before .before in
+    let start = checked .before .before .args in
+    string-kept W (start .s) (sym (started checked) ∙ ap rulingOf (made .before .enum-told .given .1))
+    (record {
+      found =
+          c .before .scan-outcome .ensures ∙ ap scanSaid (made .c-string-length .ensures .found)
+          ∙ scan-said (zeroAt W (start .mem .now) (start .s)) (toEnd W (start .mem .now) (start .s));
+      counted = made .c-string-length .ensures .counted;
+    }) (c .new .ensures)
 
 check-range-requires : tie.Need-check-range-requires
 check-range-requires c κs = search needs
@@ -46,31 +80,20 @@ enum-known-why c = search needs
 refused-requires : tie.Need-refused-requires
 refused-requires c κs = search needs
 
-returns : tie.Need-returns
-returns c =
-    string-refused W (c .before .before .before .before .before .before .args .s) (sym (started (c .before .before .before .before)) ∙ ap rulingOf (c .before .before .why .given .1)) (c .refused .ensures)
-
 enum-told : tie.Need-enum-told
 enum-told c = search needs
 
 c-string-length-requires : tie.Need-c-string-length-requires
 c-string-length-requires c κs =
-    string-asks W (c .before .before .before .before .args .mem .now) (c .before .before .before .before .args .s)
-    (sym (started (c .before .before)) ∙ ap rulingOf (c .enum-told .given .1))
+    let checked = c .before .before in
+    string-asks W (checked .before .before .args .mem .now) (checked .before .before .args .s)
+    (sym (started checked) ∙ ap rulingOf (c .enum-told .given .1))
 
 scan-outcome-requires : tie.Need-scan-outcome-requires
 scan-outcome-requires c κs = search needs
 
 new-requires : tie.Need-new-requires
 new-requires c κs = search needs
-
-returns-2 : tie.Need-returns-2
-returns-2 c =
-    string-kept W (c .before .before .before .before .before .before .before .args .s) (sym (started (c .before .before .before .before .before)) ∙ ap rulingOf (c .before .before .before .enum-told .given .1))
-    (record {
-      found = c .before .scan-outcome .ensures ∙ ap scanSaid (c .before .before .c-string-length .ensures .found) ∙ scan-said (zeroAt W (c .before .before .before .before .before .before .before .args .mem .now) (c .before .before .before .before .before .before .before .args .s)) (toEnd W (c .before .before .before .before .before .before .before .args .mem .now) (c .before .before .before .before .before .before .before .args .s));
-      counted = c .before .before .c-string-length .ensures .counted;
-    }) (c .new .ensures)
 
 pub strlen-spec : {M : Type 1} → statement M
 strlen-spec =

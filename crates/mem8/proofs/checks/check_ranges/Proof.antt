@@ -16,8 +16,13 @@ use Rattle.mem8.proofs.checks.check_ranges.Lts as lts
 use Rattle.mem8.proofs.checks.check_inside.Reads as check-inside-reads
 use Rattle.mem8.proofs.checks.check_range.Reads as check-range-reads
 
+abbrev Told : Type 0
+Told =
+    lts.After-enum-told (check-range-reads.Asked, check-range-reads.Learnt, check-inside-reads.Asked, check-inside-reads.Learnt) reads.Pre
+    reads.Post
+
 -- Where the first range passes, none of its lines holds.
-passed : (c : lts.After-enum-told (check-range-reads.Asked, check-range-reads.Learnt, check-inside-reads.Asked, check-inside-reads.Learnt) reads.Pre reads.Post)
+passed : (c : Told)
     → ruled (fillTable W (c .before .before .before .args .k) (c .before .before .before .args .first) (c .before .before .before .args .n)) ≡ none
 unfolding fillTable
 passed c = sym (c .before .before .check-range .ensures) ∙ ap rulingOf (c .enum-told .given .1)
@@ -36,7 +41,9 @@ enum-told : tie.Need-enum-told
 enum-told c = search needs
 
 mul-check-inside : tie.Need-mul-check-inside
-mul-check-inside c = omega (arith, fill-asks W (c .before .before .before .args .k) (c .before .before .before .args .first) (c .before .before .before .args .n) (passed c) .few)
+mul-check-inside c =
+    let start = c .before .before .before .args in
+    omega (arith, fill-asks W (start .k) (start .first) (start .n) (passed c) .few)
 
 check-inside-requires : tie.Need-check-inside-requires
 check-inside-requires c κs = search needs

@@ -1,3 +1,0 @@
-pub mod WordSize
-pub mod Differences
-pub mod Scanning
