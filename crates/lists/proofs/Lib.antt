@@ -13,6 +13,7 @@ pub mod Placed
 pub mod Lengths
 pub mod Bounds
 pub mod Firsts
+pub mod Signs
 pub mod Measured
 pub mod Asking
 pub mod Turns

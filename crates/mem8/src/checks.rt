@@ -20,7 +20,7 @@ fn leaves(bytes: usize, address: usize, n: usize) -> bool
     address > bytes || n > bytes - address
 }
 
-// 2 or 3, as `why` has it.
+// Line 2 or 3, as `why` has it.
 fn check_inside(bytes: usize, address: usize, n: usize, why: Refusal) -> Verdict
     ensures { λ r. ⌜ rulingOf r ≡ ruled (outside (numberOf why) bytes address n ∷ []) ⌝ }
 {
@@ -30,7 +30,7 @@ fn check_inside(bytes: usize, address: usize, n: usize, why: Refusal) -> Verdict
     Verdict::Accept
 }
 
-// 1, and then the range.
+// Line 1, and then the range's.
 pub fn check_range(k: usize, address: usize, n: usize, why: Refusal) -> Verdict
     ensures { λ r. ⌜ rulingOf r ≡ ruled (tooLarge W k ∷ outside (numberOf why) (W * k) address n ∷ []) ⌝ }
 {
@@ -40,7 +40,7 @@ pub fn check_range(k: usize, address: usize, n: usize, why: Refusal) -> Verdict
     check_inside(WORD_SIZE * k, address, n, why)
 }
 
-// 1, 2 and 3.
+// Lines 1, 2 and 3.
 pub fn check_ranges(k: usize, first: usize, second: usize, n: usize) -> Verdict
     ensures { λ r. ⌜ rulingOf r ≡ ruled (rangesTable W k first second n) ⌝ }
 {
@@ -61,7 +61,7 @@ fn overlaps(dest: usize, src: usize, n: usize) -> bool
     }
 }
 
-// 1, 2, 3 and 4.
+// Lines 1, 2, 3 and 4.
 pub fn check_copy(k: usize, dest: usize, src: usize, n: usize) -> Verdict
     ensures { λ r. ⌜ rulingOf r ≡ ruled (copyTable W k dest src n) ⌝ }
 {
