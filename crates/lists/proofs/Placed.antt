@@ -10,9 +10,9 @@ use native.Mathlib.Omega.{arith}
 use lib.Dec.{eqb}
 use borrow.Author.Tests.{eqb-true, eqb-false}
 use Rattle.model.specs.Access.{Access, load, store}
-use Rattle.model.specs.Fit.{Aligned, Fit, Range, aligns, fits, Every, none, next}
+use Rattle.model.specs.Fit.{Aligned, Fit, Range, aligns, fits, Every, none as empty, next}
 use Rattle.model.specs.Lists.{along, copyList, upward, moveList, fillList, compareList, stringList}
-use Rattle.model.specs.Refusals.{accepts, rangesTable, copyTable, fillTable, startTable}
+use Rattle.model.specs.Refusals.{none, ruled, rangesTable, copyTable, fillTable, startTable}
 use Rattle.model.proofs.FitLaws.{every-upto}
 use Rattle.model.proofs.Widths.{last-width}
 use Rattle.model.proofs.RefusalLaws.{ranges-accepted, fill-accepted, string-accepted, copy-accepted}
@@ -65,7 +65,7 @@ compare-every : {P : Access → Type 0} (a b n p : ℕ) → ((i : ℕ) → i < n
 unfolding compareList
 compare-every a b n p h =
     every-upto (min (suc p) n) (λ i. load 1 (a + i) ∷ load 1 (b + i) ∷ [])
-    (λ i l. let k = h i (omega (arith, min-le-right (suc p) n)) in next (k .0) (next (k .1) none))
+    (λ i l. let k = h i (omega (arith, min-le-right (suc p) n)) in next (k .0) (next (k .1) empty))
 
 byte : (W a : ℕ) → Aligned W 1 a
 byte W a = aligned (mod-one W) (mod-one a)
@@ -78,7 +78,7 @@ string-every : {P : Access → Type 0} (s m p : ℕ) → ((i : ℕ) → i < m �
 unfolding stringList
 string-every s m p h =
     every-upto (min (suc p) m) (λ i. load 1 (s + i) ∷ [])
-    (λ i l. next (h i (omega (arith, min-le-right (suc p) m))) none)
+    (λ i l. next (h i (omega (arith, min-le-right (suc p) m))) empty)
 
 -- String length: each access is of one byte, and so aligned.
 pub string-aligned : (W s m p : ℕ) → Every (aligns W) (stringList s m p)
@@ -96,26 +96,26 @@ along-fits p up k dest src n d s =
     along-every p up dest src n (λ w a h lo hi. fit-in src s h lo hi) (λ w a h lo hi. fit-in dest d h lo hi)
 
 -- Every access of an accepted copy.
-pub copy-fits : {W : ℕ} → Core W → (k dest src n : ℕ) → accepts (copyTable W k dest src n) ≡ true
+pub copy-fits : {W : ℕ} → Core W → (k dest src n : ℕ) → ruled (copyTable W k dest src n) ≡ none
     → Every (fits W k) (copyList W dest src n)
 copy-fits {W} p k dest src n e =
-    let r = ranges-accepted W k dest src n (copy-accepted W k dest src n e .0) in
+    let r = copy-accepted W k dest src n e .0 in
     along-fits p true k dest src n (r .0) (r .1)
 
 -- Every access of an accepted move.
-pub move-fits : {W : ℕ} → Core W → (k dest src n : ℕ) → accepts (rangesTable W k dest src n) ≡ true
+pub move-fits : {W : ℕ} → Core W → (k dest src n : ℕ) → ruled (rangesTable W k dest src n) ≡ none
     → Every (fits W k) (moveList W dest src n)
 move-fits {W} p k dest src n e =
     let r = ranges-accepted W k dest src n e in
     along-fits p (upward dest src n) k dest src n (r .0) (r .1)
 
 -- Every access of an accepted fill.
-pub fill-fits : {W : ℕ} → Core W → (k s n : ℕ) → accepts (fillTable W k s n) ≡ true → Every (fits W k) (fillList W s n)
+pub fill-fits : {W : ℕ} → Core W → (k s n : ℕ) → ruled (fillTable W k s n) ≡ none → Every (fits W k) (fillList W s n)
 fill-fits {W} p k s n e =
     block-every (fill-block p s n) (λ w a h lo hi. fit-in s (fill-accepted W k s n e) h lo hi)
 
 -- Every access of an accepted compare or bcmp, wherever it stops.
-pub compare-fits : (W k a b n p : ℕ) → accepts (rangesTable W k a b n) ≡ true → Every (fits W k) (compareList a b n p)
+pub compare-fits : (W k a b n p : ℕ) → ruled (rangesTable W k a b n) ≡ none → Every (fits W k) (compareList a b n p)
 compare-fits W k a b n p e =
     let r = ranges-accepted W k a b n e in
     compare-every a b n p (λ i l. (
@@ -124,7 +124,7 @@ compare-fits W k a b n p e =
     ))
 
 -- Every access of a string length that refusals 1 and 2 let pass, wherever it stops, or finds no zero.
-pub string-fits : (W k s p : ℕ) → accepts (startTable W k s) ≡ true
+pub string-fits : (W k s p : ℕ) → ruled (startTable W k s) ≡ none
     → Every (fits W k) (stringList s (W * k - s) p)
 string-fits W k s p e =
     string-every s (W * k - s) p (λ i l. fit-in s (string-accepted W k s e) (byte W (s + i)) (omega arith) (omega arith))

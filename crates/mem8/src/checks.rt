@@ -4,27 +4,22 @@ use model::Verdict;
 use words8::WORD_SIZE;
 ghost use mathlib.Core.Path.{_≡_};
 ghost use mathlib.Core.List.{[], _∷_};
-ghost use Prim.Native.Nat.{_+_, _*_};
-ghost use lib.Dec.{ltb};
+ghost use Prim.Native.Nat.{_+_, _*_, _-_};
 ghost use Rattle.model.specs.Answers.{rulingOf, numberOf};
-ghost use Rattle.model.specs.Refusals.{ruled, tooLarge, outside, overlap, rangesTable, copyTable};
+ghost use Rattle.model.specs.Refusals.{ruled, tooLarge, outside, rangesTable, copyTable};
 ghost use Rattle.words8.specs.Word.{W};
 
 // The most words that may be lent: 65,536 bytes of them.
 const MOST_WORDS: usize = 65536 / WORD_SIZE;
 
-// address + n > M. The length is held against what is left of the memory, so that nothing can wrap.
-fn leaves(bytes: usize, address: usize, n: usize) -> bool
-    ensures { λ r. ⌜ r ≡ ltb bytes (address + n) ⌝ }
-{
-    address > bytes || n > bytes - address
-}
-
-// Line 2 or 3, as `why` has it.
+// Line 2 or 3, as `why` has it: address + n > M. The length is held against what is left of the memory, so that nothing can wrap.
 fn check_inside(bytes: usize, address: usize, n: usize, why: Refusal) -> Verdict
     ensures { λ r. ⌜ rulingOf r ≡ ruled (outside (numberOf why) bytes address n ∷ []) ⌝ }
 {
-    if leaves(bytes, address, n) {
+    if address > bytes {
+        return Verdict::Refuse(why);
+    }
+    if n > bytes - address {
         return Verdict::Refuse(why);
     }
     Verdict::Accept
@@ -50,15 +45,11 @@ pub fn check_ranges(k: usize, first: usize, second: usize, n: usize) -> Verdict
     check_inside(WORD_SIZE * k, second, n, Refusal::SecondOutside)
 }
 
-// n > 0 and dest < src + n and src < dest + n: the ranges begin less than n apart.
-fn overlaps(dest: usize, src: usize, n: usize) -> bool
-    ensures { λ r. ⌜ r ≡ overlap dest src n .holds ⌝ }
+// How far apart two addresses are.
+fn distance(a: usize, b: usize) -> usize
+    ensures { λ r. ⌜ r ≡ (a - b) + (b - a) ⌝ }
 {
-    if dest < src {
-        src - dest < n
-    } else {
-        dest - src < n
-    }
+    if a < b { b - a } else { a - b }
 }
 
 // Lines 1, 2, 3 and 4.
@@ -68,7 +59,8 @@ pub fn check_copy(k: usize, dest: usize, src: usize, n: usize) -> Verdict
     if let Verdict::Refuse(why) = check_ranges(k, dest, src, n) {
         return Verdict::Refuse(why);
     }
-    if overlaps(dest, src, n) {
+    // n > 0 and dest < src + n and src < dest + n: the ranges begin less than n apart.
+    if distance(dest, src) < n {
         return Verdict::Refuse(Refusal::Overlap);
     }
     Verdict::Accept

@@ -39,11 +39,17 @@ pub fn memcpy(mem: &mut [Word], dest: usize, src: usize, n: usize) -> Answer
     Answer::new(Outcome::Address(dest), work)
 }
 
-// `delta >= n` of mod.rs, whose delta wraps where dest is below src: whether the move goes forward.
+// Whether a move goes forward: `delta >= n` of mod.rs, whose delta wraps where src is ahead of dest.
 fn forward(dest: usize, src: usize, n: usize) -> bool
     ensures { λ r. ⌜ r ≡ upward dest src n ⌝ }
 {
-    dest < src || dest - src >= n
+    if dest < src {
+        return true;
+    }
+    if dest - src >= n {
+        return true;
+    }
+    false
 }
 
 fn move_bytes(mem: &mut [Word], dest: usize, src: usize, n: usize) -> Work

@@ -2,30 +2,20 @@
 -- may be appended. Then what the tables say of a call that they accept: its ranges lie inside the memory, and those of a copy do not
 -- overlap. By induction on the lines. Assumes nothing.
 use mathlib.Core.Path.{_≡_, refl, sym, ap, _∙_}
-use mathlib.Core.Bool.{Bool, true, false, cond, not, _||_}
+use mathlib.Core.Bool.{Bool, true, false, cond, _||_}
 use mathlib.Core.List.{List, [], _∷_, _++_}
 use Prim.Native.Nat.{ℕ, _+_, _*_, _-_, _≤_}
 use native.Mathlib.Omega.{arith}
-use borrow.Author.Tests.{ltb-false, leb-false, not-true}
+use borrow.Author.Tests.{ltb-false, leb-false}
 use Rattle.model.specs.Fit.{Range}
 use Rattle.model.specs.Memory.{mostWords}
-use Rattle.model.specs.Refusals.{Line, checked, accepts, someHolds, Ruling, none, given, ruled, tooLarge, overlap, rangesTable, copyTable, fillTable, startTable}
+use Rattle.model.specs.Refusals.{Line, checked, someHolds, Ruling, none, given, ruled, tooLarge, overlap, rangesTable, copyTable, fillTable, startTable}
 
 -- No test both passes and fails.
 pub not-both : (b : Bool) → b ≡ true → b ≡ false → ⊥
 not-both b p q = let clash : _≡_ {A = ℕ} 0 1 = cc in omega arith
 
 -- ---- any table
-
--- A call is accepted exactly when no line of its table holds.
-pub accepted-exactly : (ls : List Line) → accepts ls ≡ not (someHolds ls)
-unfolding checked someHolds
-accepted-exactly [] = refl
-accepted-exactly (l ∷ ls) = go (l .holds) (accepted-exactly ls)
-  where
-    go : (b : Bool) → accepts ls ≡ not (someHolds ls) → cond b false (accepts ls) ≡ not (b || someHolds ls)
-    go true e = refl
-    go false e = e
 
 -- Lines may be appended: they are checked after the others.
 pub checked-append : {A : Type 0} (ks ls : List Line) (refused : ℕ → A) (accepted : A)
@@ -87,9 +77,33 @@ pub checked-given : {A : Type 0} {r : ℕ} (ls : List Line) (refused : ℕ → A
 unfolding decided
 checked-given ls refused accepted e = checked-ruled ls refused accepted ∙ ap (decided refused accepted) e
 
--- The checks find nothing exactly when no line holds.
+-- Nothing is given: the first line does not hold, and the others give nothing.
+found : Ruling → Bool
+found none = false
+found (given r) = true
+
+passed : (b : Bool) (i : ℕ) (r : Ruling) → cond b (given i) r ≡ none → (b ≡ false) × (r ≡ none)
+unfolding found
+passed false i r e = (refl, e)
+passed true i r e = absurd (not-both true refl (ap found e))
+
+line-none : (l : Line) (ls : List Line) → ruled (l ∷ ls) ≡ none → (l .holds ≡ false) × (ruled ls ≡ none)
+unfolding checked
+line-none l ls e = passed (l .holds) (l .number) (ruled ls) e
+
+both-none : (ks ls : List Line) → ruled (ks ++ ls) ≡ none → (ruled ks ≡ none) × (ruled ls ≡ none)
+unfolding checked
+both-none [] ls e = (refl, e)
+both-none (k ∷ ks) ls e =
+    let h = line-none k (ks ++ ls) e in
+    let r = both-none ks ls (h .1) in
+    (rw (h .0) (r .0), r .1)
+
+-- A call is accepted exactly when no line of its table holds.
 pub none-holds : (ls : List Line) → ruled ls ≡ none → someHolds ls ≡ false
-none-holds ls e = not-true (someHolds ls) (sym (accepted-exactly ls) ∙ checked-none ls (λ r. false) true e)
+unfolding someHolds
+none-holds [] e = refl
+none-holds (l ∷ ls) e = let h = line-none l ls e in rw (h .0) (none-holds ls (h .1))
 
 pub holds-none : (ls : List Line) → someHolds ls ≡ false → ruled ls ≡ none
 unfolding checked someHolds
@@ -122,53 +136,35 @@ append-passed ks ls e = sym (checked-append ks ls given none ∙ checked-none ks
 
 -- ---- what a table that accepts says
 
-refused-not : (b t : Bool) → cond b false t ≡ true → (b ≡ false) × (t ≡ true)
-refused-not false t e = (refl, e)
-refused-not true t e = absurd (not-both false e refl)
-
--- The first line does not hold, and the others accept.
-pub accepted-line : (l : Line) (ls : List Line) → accepts (l ∷ ls) ≡ true → (l .holds ≡ false) × (accepts ls ≡ true)
-unfolding checked
-accepted-line l ls e = refused-not (l .holds) (accepts ls) e
-
--- Neither part of a table holds.
-pub accepted-both : (ks ls : List Line) → accepts (ks ++ ls) ≡ true → (accepts ks ≡ true) × (accepts ls ≡ true)
-unfolding checked
-accepted-both [] ls e = (refl, e)
-accepted-both (k ∷ ks) ls e =
-    let h = accepted-line k (ks ++ ls) e in
-    let r = accepted-both ks ls (h .1) in
-    (rw (h .0) (r .0), r .1)
-
 range : (W k a n : ℕ) → tooLarge W k .holds ≡ false → a + n ≤ W * k → Range W k a n
 range W k a n e l = record { few = ltb-false (mostWords W) k e; inside = l }
 
-pub ranges-accepted : (W k a b n : ℕ) → accepts (rangesTable W k a b n) ≡ true → Range W k a n × Range W k b n
+pub ranges-accepted : (W k a b n : ℕ) → ruled (rangesTable W k a b n) ≡ none → Range W k a n × Range W k b n
 unfolding rangesTable checked
 ranges-accepted W k a b n e =
-    let few = refused-not _ _ e in
-    let one = refused-not _ _ (few .1) in
-    let two = refused-not _ _ (one .1) in
+    let few = passed _ _ _ e in
+    let one = passed _ _ _ (few .1) in
+    let two = passed _ _ _ (one .1) in
     (range W k a n (few .0) (ltb-false (W * k) (a + n) (one .0)), range W k b n (few .0) (ltb-false (W * k) (b + n) (two .0)))
 
-pub fill-accepted : (W k s n : ℕ) → accepts (fillTable W k s n) ≡ true → Range W k s n
+pub fill-accepted : (W k s n : ℕ) → ruled (fillTable W k s n) ≡ none → Range W k s n
 unfolding fillTable checked
 fill-accepted W k s n e =
-    let few = refused-not _ _ e in
-    range W k s n (few .0) (ltb-false (W * k) (s + n) (refused-not _ _ (few .1) .0))
+    let few = passed _ _ _ e in
+    range W k s n (few .0) (ltb-false (W * k) (s + n) (passed _ _ _ (few .1) .0))
 
 -- The bytes from a string's start to the end of the memory.
-pub string-accepted : (W k s : ℕ) → accepts (startTable W k s) ≡ true → Range W k s (W * k - s)
+pub string-accepted : (W k s : ℕ) → ruled (startTable W k s) ≡ none → Range W k s (W * k - s)
 unfolding startTable checked
 string-accepted W k s e =
-    let few = refused-not _ _ e in
-    let start = leb-false (W * k) s (refused-not _ _ (few .1) .0) in
+    let few = passed _ _ _ e in
+    let start = leb-false (W * k) s (passed _ _ _ (few .1) .0) in
     range W k s (W * k - s) (few .0) (omega arith)
 
 -- A copy's table is a move's with refusal 4 after it.
-pub copy-accepted : (W k dest src n : ℕ) → accepts (copyTable W k dest src n) ≡ true
-    → (accepts (rangesTable W k dest src n) ≡ true) × (overlap dest src n .holds ≡ false)
+pub copy-accepted : (W k dest src n : ℕ) → ruled (copyTable W k dest src n) ≡ none
+    → (Range W k dest n × Range W k src n) × (overlap dest src n .holds ≡ false)
 unfolding copyTable
 copy-accepted W k dest src n e =
-    let h = accepted-both (rangesTable W k dest src n) (overlap dest src n ∷ []) e in
-    (h .0, accepted-line (overlap dest src n) [] (h .1) .0)
+    let h = both-none (rangesTable W k dest src n) (overlap dest src n ∷ []) e in
+    (ranges-accepted W k dest src n (h .0), line-none (overlap dest src n) [] (h .1) .0)

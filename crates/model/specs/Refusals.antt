@@ -1,7 +1,7 @@
 -- Document 01, "Refusal numbers": the table, for each call.
 -- Assumes nothing.
 use Prim.Native.Nat.{ℕ, _+_, _*_, _-_}
-use mathlib.Core.Bool.{Bool, true, false, cond, _&&_, _||_}
+use mathlib.Core.Bool.{Bool, false, cond, _&&_, _||_}
 use mathlib.Core.List.{List, [], _∷_, _++_}
 use lib.Dec.{leb, ltb, eqb}
 use lib.ListN.{length}
@@ -18,16 +18,12 @@ unfoldable pub checked : {A : Type 0} → List Line → (ℕ → A) → A → A
 checked [] refused accepted = accepted
 checked (l ∷ ls) refused accepted = cond (l .holds) (refused (l .number)) (checked ls refused accepted)
 
--- Accepted: no line holds.
-abbrev pub accepts : List Line → Bool
-accepts lines = checked lines (λ r. false) true
-
 -- Some line holds.
 unfoldable pub someHolds : List Line → Bool
 someHolds [] = false
 someHolds (l ∷ ls) = l .holds || someHolds ls
 
--- What the checks of a call find: the number that is given, and none otherwise.
+-- What is given: the number of a refusal, or none, and the call is accepted.
 pub data Ruling : Type 0 where
   none : Ruling
   given : ℕ → Ruling

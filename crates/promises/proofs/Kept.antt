@@ -14,7 +14,6 @@ use Rattle.model.specs.declared.Answer.{Answer}
 use Rattle.model.specs.declared.Work.{Work}
 use Rattle.model.specs.Access.{Access}
 use Rattle.model.specs.Answers.{Said, Reply, an-address, a-number, a-length, a-refusal, answered, replied, accepted, refused, copyAnswer, moveAnswer, fillAnswer, compareAnswer, stringAnswer, copyWords, moveWords, fillWords}
-use Rattle.model.specs.Fit.{Range}
 use Rattle.model.specs.Lists.{along, copyList, upward, moveList, fillList, compareList, stringList}
 use Rattle.model.specs.Meaning.{memcpy, memmove, memset, memcmp, difference, isNull}
 use Rattle.model.specs.Memory.{byteOf, view, packed}
@@ -23,25 +22,11 @@ use Rattle.model.specs.Promises.{Promised, CopyPromise, MovePromise, FillPromis
 use Rattle.model.specs.Ran.{Ran, Found}
 use Rattle.model.specs.Refusals.{Line, checked, none, given, ruled, toEnd, zeroAt, noZero, rangesTable, copyTable, fillTable, startTable, stringTable}
 use Rattle.model.proofs.MemoryLaws.{packed-view}
-use Rattle.model.proofs.RefusalLaws.{checked-none, checked-given, ranges-accepted, copy-accepted, fill-accepted, string-accepted}
+use Rattle.model.proofs.RefusalLaws.{checked-none, checked-given, copy-accepted}
 use Rattle.lists.specs.Sizes.{Core}
 use Rattle.lists.proofs.Firsts.{first-exists}
 use Rattle.lists.proofs.Performed.{copy-performed, move-performed, fill-performed}
 use Rattle.promises.proofs.Tests.{start-outside}
-
--- ---- where the checks find nothing, the routines have what they ask
-
-pub ranges-ask : (W k a b n : ℕ) → ruled (rangesTable W k a b n) ≡ none → Range W k a n × Range W k b n
-ranges-ask W k a b n e = ranges-accepted W k a b n (checked-none _ _ _ e)
-
-pub copy-asks : (W k dest src n : ℕ) → ruled (copyTable W k dest src n) ≡ none → Range W k dest n × Range W k src n
-copy-asks W k dest src n e = ranges-accepted W k dest src n (copy-accepted W k dest src n (checked-none _ _ _ e) .0)
-
-pub fill-asks : (W k s n : ℕ) → ruled (fillTable W k s n) ≡ none → Range W k s n
-fill-asks W k s n e = fill-accepted W k s n (checked-none _ _ _ e)
-
-pub string-asks : (W : ℕ) (ws : List ℕ) (s : ℕ) → ruled (startTable W (length ws) s) ≡ none → Range W (length ws) s (toEnd W ws s)
-string-asks W ws s e = string-accepted W (length ws) s (checked-none _ _ _ e)
 
 -- ---- any call that may change the memory
 
@@ -86,7 +71,7 @@ pub copy-kept : {W : ℕ} {r : Answer} {ws ws' : List ℕ} {work : Work} → Cor
     → answered r ≡ replied (an-address dest) work → CopyPromise W ws dest src n r ws'
 unfolding copyAnswer copyWords
 copy-kept {W} {ws = ws} p dest src n h e ran a =
-    let apart = copy-accepted W (length ws) dest src n (checked-none _ _ _ e) .1 in
+    let apart = copy-accepted W (length ws) dest src n e .1 in
     accepted-kept ws _ _ _ e (a ∙ ap (replied (an-address dest)) (ran .counted)) (left-words (memcpy dest src n) h ran (copy-performed p dest src n apart))
 
 -- The direction that was taken is the move's.

@@ -1,15 +1,26 @@
--- `mem8::forward` is the definition's direction, for every destination, source and length (`upward-below`, `upward-above`).
+-- `mem8::forward` is the definition's direction, for every destination, source and length: src is ahead, or dest is far enough ahead, or
+-- neither.
 -- Assumes nothing.
 use native.Mathlib.Omega.{arith}
-use Rattle.promises.proofs.Tests.{upward-below, upward-above}
+use Rattle.promises.proofs.Tests.{upward-below, upward-clear, upward-not}
 use Rattle.mem8.proofs.forward.Statement.{statement}
 use Rattle.mem8.proofs.forward.Tie as tie
 
 returns : tie.Need-returns
-returns c = upward-below (c .before .args .dest) (c .before .args .src) (c .before .args .n) (omega (arith, c .if1 .taken))
+returns c =
+    let start = c .before .args in
+    upward-below (start .dest) (start .src) (start .n) (omega (arith, c .if1 .taken))
 
 returns-2 : tie.Need-returns-2
-returns-2 c = upward-above (c .before .args .dest) (c .before .args .src) (c .before .args .n) (omega (arith, c .if1 .left))
+returns-2 c =
+    let start = c .before .before .args in
+    upward-clear (start .dest) (start .src) (start .n) (omega (arith, c .before .if1 .left, c .if2 .taken))
+
+returns-3 : tie.Need-returns-3
+returns-3 c =
+    let start = c .before .before .args in
+    upward-not (start .dest) (start .src) (start .n) (omega (arith, c .before .if1 .left))
+    (omega (arith, c .before .if1 .left, c .if2 .left))
 
 pub forward-spec : {M : Type 1} → statement M
-forward-spec = tie.close (tie.spec returns returns-2)
+forward-spec = tie.close (tie.spec returns returns-2 returns-3)

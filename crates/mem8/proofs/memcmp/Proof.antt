@@ -6,8 +6,9 @@ use lib.ListN.{length}
 use mir.Facts.{toZ-ofZ}
 use mir.Syntax.{w32}
 use Rattle.model.specs.Answers.{a-number, replied, rulingOf}
+use Rattle.model.proofs.RefusalLaws.{ranges-accepted}
 use Rattle.words8.specs.Word.{W}
-use Rattle.promises.proofs.Kept.{ranges-ask, compare-refused, compare-kept}
+use Rattle.promises.proofs.Kept.{compare-refused, compare-kept}
 use borrow.Author.Needs.{needs}
 use Rattle.mem8.proofs.memcmp.Statement.{statement}
 use Rattle.mem8.proofs.memcmp.Tie as tie
@@ -46,7 +47,7 @@ compare-bytes-requires : tie.Need-compare-bytes-requires
 compare-bytes-requires c κs =
     let checked = c .before .before in
     let start = checked .before .before .args in
-    ranges-ask W (length (start .mem .now)) (start .s1) (start .s2) (start .n)
+    ranges-accepted W (length (start .mem .now)) (start .s1) (start .s2) (start .n)
     (sym (checked .check-ranges .ensures) ∙ ap rulingOf (c .enum-told .given .1))
 
 new-requires : tie.Need-new-requires

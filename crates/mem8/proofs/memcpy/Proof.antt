@@ -4,8 +4,9 @@ use mathlib.Core.Path.{sym, ap, _∙_}
 use native.Mathlib.Omega.{arith}
 use lib.ListN.{length}
 use Rattle.model.specs.Answers.{rulingOf}
+use Rattle.model.proofs.RefusalLaws.{copy-accepted}
 use Rattle.words8.specs.Word.{W}
-use Rattle.promises.proofs.Kept.{copy-asks, copy-refused, copy-kept}
+use Rattle.promises.proofs.Kept.{copy-refused, copy-kept}
 use Rattle.words8.proofs.WordSize.{core}
 use borrow.Author.Needs.{needs}
 use Rattle.mem8.proofs.memcpy.Statement.{statement}
@@ -43,8 +44,8 @@ copy-forward-requires : tie.Need-copy-forward-requires
 copy-forward-requires c κs =
     let checked = c .before .before .before in
     let start = checked .before .before .args in
-    copy-asks W (length (start .mem .now)) (start .dest) (start .src) (start .n)
-    (sym (checked .check-copy .ensures) ∙ ap rulingOf (c .before .enum-told .given .1))
+    copy-accepted W (length (start .mem .now)) (start .dest) (start .src) (start .n)
+    (sym (checked .check-copy .ensures) ∙ ap rulingOf (c .before .enum-told .given .1)) .0
 
 new-requires : tie.Need-new-requires
 new-requires c κs = search needs

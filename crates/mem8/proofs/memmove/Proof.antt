@@ -4,8 +4,9 @@ use mathlib.Core.Path.{sym, ap, _∙_}
 use native.Mathlib.Omega.{arith}
 use lib.ListN.{length}
 use Rattle.model.specs.Answers.{rulingOf}
+use Rattle.model.proofs.RefusalLaws.{ranges-accepted}
 use Rattle.words8.specs.Word.{W}
-use Rattle.promises.proofs.Kept.{ranges-ask, move-refused, move-kept}
+use Rattle.promises.proofs.Kept.{move-refused, move-kept}
 use Rattle.words8.proofs.WordSize.{core}
 use borrow.Author.Needs.{needs}
 use Rattle.mem8.proofs.memmove.Statement.{statement}
@@ -43,7 +44,7 @@ move-bytes-requires : tie.Need-move-bytes-requires
 move-bytes-requires c κs =
     let checked = c .before .before .before in
     let start = checked .before .before .args in
-    ranges-ask W (length (start .mem .now)) (start .dest) (start .src) (start .n)
+    ranges-accepted W (length (start .mem .now)) (start .dest) (start .src) (start .n)
     (sym (checked .check-ranges .ensures) ∙ ap rulingOf (c .before .enum-told .given .1))
 
 new-requires : tie.Need-new-requires

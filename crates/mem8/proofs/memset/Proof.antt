@@ -7,8 +7,9 @@ use mir.Facts.{toZ-ofZ}
 use Rattle.model.specs.Answers.{rulingOf}
 use Rattle.model.specs.Memory.{byteOf}
 use Rattle.model.specs.Refusals.{ruled, fillTable}
+use Rattle.model.proofs.RefusalLaws.{fill-accepted}
 use Rattle.words8.specs.Word.{W}
-use Rattle.promises.proofs.Kept.{fill-asks, fill-refused, fill-kept}
+use Rattle.promises.proofs.Kept.{fill-refused, fill-kept}
 use Rattle.words8.proofs.WordSize.{core}
 use borrow.Author.Needs.{needs}
 use Rattle.mem8.proofs.memset.Statement.{statement}
@@ -78,7 +79,7 @@ set-bytes-requires : tie.Need-set-bytes-requires
 set-bytes-requires c κs =
     let checked = c .before .before .before .before in
     let start = checked .before .before .args in
-    fill-asks W (length (start .mem .now)) (start .s) (start .n)
+    fill-accepted W (length (start .mem .now)) (start .s) (start .n)
     (sym (ranged checked) ∙ ap rulingOf (c .before .before .enum-told .given .1))
 
 new-requires : tie.Need-new-requires

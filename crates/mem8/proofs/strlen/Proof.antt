@@ -8,8 +8,9 @@ use lib.ListN.{length}
 use borrow.Author.Needs.{needs}
 use Rattle.model.specs.Answers.{rulingOf, a-length, a-refusal}
 use Rattle.model.specs.Refusals.{ruled, toEnd, zeroAt, fillTable, startTable}
+use Rattle.model.proofs.RefusalLaws.{string-accepted}
 use Rattle.words8.specs.Word.{W}
-use Rattle.promises.proofs.Kept.{start-range, string-asks, string-refused, string-kept}
+use Rattle.promises.proofs.Kept.{start-range, string-refused, string-kept}
 use Rattle.scans8.specs.declared.Scan.the-variants.{Length, NoZero}
 use Rattle.scans8.specs.Scans.{scanOf}
 use Rattle.mem8.specs.Scanned.{scanSaid}
@@ -86,7 +87,7 @@ enum-told c = search needs
 c-string-length-requires : tie.Need-c-string-length-requires
 c-string-length-requires c κs =
     let checked = c .before .before in
-    string-asks W (checked .before .before .args .mem .now) (checked .before .before .args .s)
+    string-accepted W (length (checked .before .before .args .mem .now)) (checked .before .before .args .s)
     (sym (started checked) ∙ ap rulingOf (c .enum-told .given .1))
 
 scan-outcome-requires : tie.Need-scan-outcome-requires

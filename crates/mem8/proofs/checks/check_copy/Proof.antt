@@ -1,10 +1,12 @@
 -- `mem8::checks::check_copy`: the table of two ranges, and then line 4.
 -- Assumes nothing.
 use mathlib.Core.Path.{sym, ap, _∙_}
+use native.Mathlib.Omega.{arith}
 use Rattle.model.specs.Answers.{rulingOf}
 use Rattle.model.specs.Refusals.{copyTable}
 use Rattle.model.proofs.RefusalLaws.{line-given, line-passed, lines-passed, append-given, append-passed}
 use borrow.Author.Needs.{needs}
+use Rattle.promises.proofs.Tests.{overlap-near, overlap-apart}
 use Rattle.mem8.proofs.checks.check_copy.Statement.{statement}
 use Rattle.mem8.proofs.checks.check_copy.Tie as tie
 
@@ -21,20 +23,25 @@ returns c = append-given _ _ (sym (c .before .before .before .check-ranges .ensu
 enum-told : tie.Need-enum-told
 enum-told c = search needs
 
-overlaps-requires : tie.Need-overlaps-requires
-overlaps-requires c κs = search needs
+distance-requires : tie.Need-distance-requires
+distance-requires c κs = search needs
 
 returns-2 : tie.Need-returns-2
 unfolding copyTable
 returns-2 c =
-    line-given _ _ (sym (c .before .overlaps .ensures) ∙ c .if1 .taken)
-    ∙ append-passed _ _ (sym (c .before .before .before .before .check-ranges .ensures) ∙ ap rulingOf (c .before .before .enum-told .given .1))
+    let checked = c .before .before .before .before in
+    let start = checked .before .args in
+    line-given _ _ (overlap-near (start .dest) (start .src) (start .n) (omega (arith, c .before .distance .ensures, c .if1 .taken)))
+    ∙ append-passed _ _ (sym (checked .check-ranges .ensures) ∙ ap rulingOf (c .before .before .enum-told .given .1))
 
 returns-3 : tie.Need-returns-3
 unfolding copyTable
 returns-3 c =
-    lines-passed ∙ line-passed _ _ (sym (c .before .overlaps .ensures) ∙ c .if1 .left)
-    ∙ append-passed _ _ (sym (c .before .before .before .before .check-ranges .ensures) ∙ ap rulingOf (c .before .before .enum-told .given .1))
+    let checked = c .before .before .before .before in
+    let start = checked .before .args in
+    lines-passed
+    ∙ line-passed _ _ (overlap-apart (start .dest) (start .src) (start .n) (omega (arith, c .before .distance .ensures, c .if1 .left)))
+    ∙ append-passed _ _ (sym (checked .check-ranges .ensures) ∙ ap rulingOf (c .before .before .enum-told .given .1))
 
 pub check-copy-spec : {M : Type 1} → statement M
 check-copy-spec =
@@ -44,6 +51,6 @@ check-copy-spec =
     enum-known-why
     returns
     enum-told
-    overlaps-requires
+    distance-requires
     returns-2
     returns-3)

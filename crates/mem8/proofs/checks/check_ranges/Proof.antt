@@ -6,9 +6,8 @@ use native.Mathlib.Omega.{arith}
 use borrow.Author.Needs.{needs}
 use Rattle.model.specs.Answers.{rulingOf}
 use Rattle.model.specs.Refusals.{none, ruled, rangesTable, fillTable}
-use Rattle.model.proofs.RefusalLaws.{append-given, append-passed}
+use Rattle.model.proofs.RefusalLaws.{append-given, append-passed, fill-accepted}
 use Rattle.words8.specs.Word.{W}
-use Rattle.promises.proofs.Kept.{fill-asks}
 use Rattle.mem8.proofs.checks.check_ranges.Statement.{statement}
 use Rattle.mem8.proofs.checks.check_ranges.Tie as tie
 use Rattle.mem8.proofs.checks.check_ranges.Reads as reads
@@ -43,7 +42,7 @@ enum-told c = search needs
 mul-check-inside : tie.Need-mul-check-inside
 mul-check-inside c =
     let start = c .before .before .before .args in
-    omega (arith, fill-asks W (start .k) (start .first) (start .n) (passed c) .few)
+    omega (arith, fill-accepted W (start .k) (start .first) (start .n) (passed c) .few)
 
 check-inside-requires : tie.Need-check-inside-requires
 check-inside-requires c κs = search needs
