@@ -11,22 +11,27 @@ use lib.IntN.{ℤ}
 use lib.ListN.{length, getD}
 use borrow.Author.Tests.{ltb-true, ltb-false, eq-eqb, ne-eqb}
 use Rattle.model.specs.declared.Answer.{Answer}
+use Rattle.model.specs.declared.Verdict.{Verdict}
 use Rattle.model.specs.declared.Work.{Work}
 use Rattle.model.specs.Access.{Access}
-use Rattle.model.specs.Answers.{Said, Reply, an-address, a-number, a-length, a-refusal, answered, replied, accepted, refused, copyAnswer, moveAnswer, fillAnswer, compareAnswer, stringAnswer, copyWords, moveWords, fillWords}
+use Rattle.model.specs.Answers.{rulingOf, Said, Reply, an-address, a-number, a-length, a-refusal, answered, replied, accepted, refused, copyAnswer, moveAnswer, fillAnswer, compareAnswer, stringAnswer, copyWords, moveWords, fillWords}
 use Rattle.model.specs.Lists.{along, copyList, upward, moveList, fillList, compareList, stringList}
 use Rattle.model.specs.Meaning.{memcpy, memmove, memset, memcmp, difference, isNull}
 use Rattle.model.specs.Memory.{byteOf, view, packed}
 use Rattle.model.specs.Perform.{State, perform, moving, filling}
 use Rattle.model.specs.Promises.{Promised, CopyPromise, MovePromise, FillPromise, ComparePromise, StringPromise}
 use Rattle.model.specs.Ran.{Ran, Found}
-use Rattle.model.specs.Refusals.{Line, checked, none, given, ruled, toEnd, zeroAt, noZero, rangesTable, copyTable, fillTable, startTable, stringTable}
+use Rattle.model.specs.Refusals.{Line, Ruling, checked, none, given, ruled, toEnd, zeroAt, noZero, rangesTable, copyTable, fillTable, startTable, stringTable}
 use Rattle.model.proofs.MemoryLaws.{packed-view}
 use Rattle.model.proofs.RefusalLaws.{checked-none, checked-given, copy-accepted}
 use Rattle.lists.specs.Sizes.{Core}
 use Rattle.lists.proofs.Firsts.{first-exists}
 use Rattle.lists.proofs.Performed.{copy-performed, move-performed, fill-performed}
 use Rattle.promises.proofs.Tests.{start-outside}
+
+-- What the checks were proved to find, at the verdict that they gave.
+pub ruled-by : {v u : Verdict} {x : Ruling} → rulingOf v ≡ x → v ≡ u → x ≡ rulingOf u
+ruled-by a b = sym a ∙ ap rulingOf b
 
 -- ---- any call that may change the memory
 

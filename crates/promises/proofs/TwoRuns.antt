@@ -24,21 +24,22 @@ use Rattle.promises.proofs.Kept.{string-start}
 
 -- ---- copy, move, fill: the outcome and each of the eight counts are the same
 
+-- What is answered is a function of the number of words, and of nothing else that the memory holds.
+by-size : (reply : ℕ → Reply) {k l : ℕ} (r q : Answer) → k ≡ l → answered r ≡ reply k → answered q ≡ reply l → r ≡ q
+by-size reply r q e a b = one-answer r q (a ∙ ap reply e ∙ sym b)
+
 pub two-copies : {r q : Answer} {ws' vs' : List ℕ} (ws vs : List ℕ) (W dest src n : ℕ) → length ws ≡ length vs
     → CopyPromise W ws dest src n r ws' → CopyPromise W vs dest src n q vs' → r ≡ q
-two-copies {r = r} {q} ws vs W dest src n e a b =
-    one-answer r q (a .answer ∙ ap (λ (k : ℕ). copyAnswer W k dest src n) e ∙ sym (b .answer))
+two-copies {r = r} {q} ws vs W dest src n e a b = by-size (λ k. copyAnswer W k dest src n) r q e (a .answer) (b .answer)
 
 pub two-moves : {r q : Answer} {ws' vs' : List ℕ} (ws vs : List ℕ) (W dest src n : ℕ) → length ws ≡ length vs
     → MovePromise W ws dest src n r ws' → MovePromise W vs dest src n q vs' → r ≡ q
-two-moves {r = r} {q} ws vs W dest src n e a b =
-    one-answer r q (a .answer ∙ ap (λ (k : ℕ). moveAnswer W k dest src n) e ∙ sym (b .answer))
+two-moves {r = r} {q} ws vs W dest src n e a b = by-size (λ k. moveAnswer W k dest src n) r q e (a .answer) (b .answer)
 
 -- The fill values c and d may differ.
 pub two-fills : {r q : Answer} {ws' vs' : List ℕ} (ws vs : List ℕ) (W s : ℕ) (c d : ℤ) (n : ℕ) → length ws ≡ length vs
     → FillPromise W ws s c n r ws' → FillPromise W vs s d n q vs' → r ≡ q
-two-fills {r = r} {q} ws vs W s c d n e a b =
-    one-answer r q (a .answer ∙ ap (λ (k : ℕ). fillAnswer W k s n) e ∙ sym (b .answer))
+two-fills {r = r} {q} ws vs W s c d n e a b = by-size (λ k. fillAnswer W k s n) r q e (a .answer) (b .answer)
 
 -- ---- compare, bcmp, string length: the eight counts are the same where the first difference, or the first zero, stands at the same place p
 -- in both memories, or in neither (p is then the length; `FirstAt`)

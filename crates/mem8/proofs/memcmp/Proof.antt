@@ -1,14 +1,14 @@
 -- `mem8::memcmp`: refused by its table, or its list is C's memcmp up to the first difference (`compare-kept`).
 -- Assumes nothing.
-use mathlib.Core.Path.{sym, ap, _∙_}
+use mathlib.Core.Path.{ap, _∙_}
 use lib.IntN.{ℤ}
 use lib.ListN.{length}
 use mir.Facts.{toZ-ofZ}
 use mir.Syntax.{w32}
-use Rattle.model.specs.Answers.{a-number, replied, rulingOf}
+use Rattle.model.specs.Answers.{a-number, replied}
 use Rattle.model.proofs.RefusalLaws.{ranges-accepted}
 use Rattle.words8.specs.Word.{W}
-use Rattle.promises.proofs.Kept.{compare-refused, compare-kept}
+use Rattle.promises.proofs.Kept.{ruled-by, compare-refused, compare-kept}
 use borrow.Author.Needs.{needs}
 use Rattle.mem8.proofs.memcmp.Statement.{statement}
 use Rattle.mem8.proofs.memcmp.Tie as tie
@@ -18,7 +18,7 @@ returns c =
     let checked = c .before .before .before .before in
     let start = checked .before .before .args in
     compare-refused W (start .s1) (start .s2) (start .n)
-    (sym (checked .check-ranges .ensures) ∙ ap rulingOf (c .before .before .why .given .1)) (c .refused .ensures)
+    (ruled-by (checked .check-ranges .ensures) (c .before .before .why .given .1)) (c .refused .ensures)
 
 returns-2 : tie.Need-returns-2
 returns-2 c =
@@ -26,7 +26,7 @@ returns-2 c =
     let checked = made .before .before .before in
     let start = checked .before .before .args in
     compare-kept W (start .s1) (start .s2) (start .n)
-    (sym (checked .check-ranges .ensures) ∙ ap rulingOf (made .before .enum-told .given .1)) (made .compare-bytes .ensures)
+    (ruled-by (checked .check-ranges .ensures) (made .before .enum-told .given .1)) (made .compare-bytes .ensures)
     (c .new .ensures
     ∙ ap (λ (z : ℤ). replied (a-number z) (made .compare-bytes .result .work))
     (toZ-ofZ {w = w32} (record { sfits = c .before .struct-told .given .0 .1 })))
@@ -48,7 +48,7 @@ compare-bytes-requires c κs =
     let checked = c .before .before in
     let start = checked .before .before .args in
     ranges-accepted W (length (start .mem .now)) (start .s1) (start .s2) (start .n)
-    (sym (checked .check-ranges .ensures) ∙ ap rulingOf (c .enum-told .given .1))
+    (ruled-by (checked .check-ranges .ensures) (c .enum-told .given .1))
 
 new-requires : tie.Need-new-requires
 new-requires c κs = search needs

@@ -1,12 +1,10 @@
 -- `mem8::memmove`: refused by its table, or its list is performed, which is C's memmove (`move-kept`).
 -- Assumes nothing.
-use mathlib.Core.Path.{sym, ap, _∙_}
 use native.Mathlib.Omega.{arith}
 use lib.ListN.{length}
-use Rattle.model.specs.Answers.{rulingOf}
 use Rattle.model.proofs.RefusalLaws.{ranges-accepted}
 use Rattle.words8.specs.Word.{W}
-use Rattle.promises.proofs.Kept.{move-refused, move-kept}
+use Rattle.promises.proofs.Kept.{ruled-by, move-refused, move-kept}
 use Rattle.words8.proofs.WordSize.{core}
 use borrow.Author.Needs.{needs}
 use Rattle.mem8.proofs.memmove.Statement.{statement}
@@ -17,7 +15,7 @@ returns c =
     let checked = c .before .before .before .before in
     let start = checked .before .before .args in
     move-refused W (start .dest) (start .src) (start .n)
-    (sym (checked .check-ranges .ensures) ∙ ap rulingOf (c .before .before .why .given .1)) (c .refused .ensures)
+    (ruled-by (checked .check-ranges .ensures) (c .before .before .why .given .1)) (c .refused .ensures)
 
 returns-2 : tie.Need-returns-2
 returns-2 c =
@@ -26,7 +24,7 @@ returns-2 c =
     let checked = passed .before .before in
     let start = checked .before .before .args in
     move-kept core (start .dest) (start .src) (start .n) (λ i. omega (arith, c .before .slice-known2 .given i))
-    (sym (checked .check-ranges .ensures) ∙ ap rulingOf (passed .enum-told .given .1)) (made .move-bytes .ensures) (c .new .ensures)
+    (ruled-by (checked .check-ranges .ensures) (passed .enum-told .given .1)) (made .move-bytes .ensures) (c .new .ensures)
 
 check-ranges-requires : tie.Need-check-ranges-requires
 check-ranges-requires c κs = search needs
@@ -45,7 +43,7 @@ move-bytes-requires c κs =
     let checked = c .before .before .before in
     let start = checked .before .before .args in
     ranges-accepted W (length (start .mem .now)) (start .dest) (start .src) (start .n)
-    (sym (checked .check-ranges .ensures) ∙ ap rulingOf (c .before .enum-told .given .1))
+    (ruled-by (checked .check-ranges .ensures) (c .before .enum-told .given .1))
 
 new-requires : tie.Need-new-requires
 new-requires c κs = search needs

@@ -1,6 +1,6 @@
 -- `mem8::memset`: refused by its table, or its list is performed with the byte c mod 256, which is C's memset (`fill-kept`).
 -- Assumes nothing.
-use mathlib.Core.Path.{_≡_, sym, ap, _∙_}
+use mathlib.Core.Path.{_≡_, ap, _∙_}
 use native.Mathlib.Omega.{arith}
 use lib.ListN.{length}
 use mir.Facts.{toZ-ofZ}
@@ -9,7 +9,7 @@ use Rattle.model.specs.Memory.{byteOf}
 use Rattle.model.specs.Refusals.{ruled, fillTable}
 use Rattle.model.proofs.RefusalLaws.{fill-accepted}
 use Rattle.words8.specs.Word.{W}
-use Rattle.promises.proofs.Kept.{fill-refused, fill-kept}
+use Rattle.promises.proofs.Kept.{ruled-by, fill-refused, fill-kept}
 use Rattle.words8.proofs.WordSize.{core}
 use borrow.Author.Needs.{needs}
 use Rattle.mem8.proofs.memset.Statement.{statement}
@@ -48,7 +48,7 @@ returns c =
     let checked = c .before .before .before .before in
     let start = checked .before .before .args in
     fill-refused W (start .s) (start .c) (start .n)
-    (sym (ranged checked) ∙ ap rulingOf (c .before .before .why .given .1)) (c .refused .ensures)
+    (ruled-by (ranged checked) (c .before .before .why .given .1)) (c .refused .ensures)
 
 returns-2 : tie.Need-returns-2
 returns-2 c =
@@ -57,7 +57,7 @@ returns-2 c =
     let checked = passed .before .before in
     let start = checked .before .before in
     fill-kept core (start .args .s) (start .args .c) (start .args .n) (λ i. omega (arith, c .before .slice-known2 .given i))
-    (sym (ranged checked) ∙ ap rulingOf (passed .enum-told .given .1))
+    (ruled-by (ranged checked) (passed .enum-told .given .1))
     (made .before .fill-byte .ensures ∙ ap byteOf (toZ-ofZ (start .fits .c))) (made .set-bytes .ensures) (c .new .ensures)
 
 check-range-requires : tie.Need-check-range-requires
@@ -80,7 +80,7 @@ set-bytes-requires c κs =
     let checked = c .before .before .before .before in
     let start = checked .before .before .args in
     fill-accepted W (length (start .mem .now)) (start .s) (start .n)
-    (sym (ranged checked) ∙ ap rulingOf (c .before .before .enum-told .given .1))
+    (ruled-by (ranged checked) (c .before .before .enum-told .given .1))
 
 new-requires : tie.Need-new-requires
 new-requires c κs = search needs

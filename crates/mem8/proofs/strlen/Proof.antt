@@ -1,6 +1,6 @@
 -- `mem8::strlen`: refused by its table, or its list is C's strlen up to the first zero, or to the end (`string-kept`).
 -- Assumes nothing.
-use mathlib.Core.Path.{_≡_, refl, sym, ap, _∙_}
+use mathlib.Core.Path.{_≡_, refl, ap, _∙_}
 use mathlib.Core.Bool.{Bool, true, false, cond}
 use Prim.Native.Nat.{ℕ}
 use lib.Dec.{ltb}
@@ -10,7 +10,7 @@ use Rattle.model.specs.Answers.{rulingOf, a-length, a-refusal}
 use Rattle.model.specs.Refusals.{ruled, toEnd, zeroAt, fillTable, startTable}
 use Rattle.model.proofs.RefusalLaws.{string-accepted}
 use Rattle.words8.specs.Word.{W}
-use Rattle.promises.proofs.Kept.{start-range, string-refused, string-kept}
+use Rattle.promises.proofs.Kept.{ruled-by, start-range, string-refused, string-kept}
 use Rattle.scans8.specs.declared.Scan.the-variants.{Length, NoZero}
 use Rattle.scans8.specs.Scans.{scanOf}
 use Rattle.mem8.specs.Scanned.{scanSaid}
@@ -56,7 +56,7 @@ started c = c .check-range .ensures ∙ start-range W (length (c .before .before
 returns : tie.Need-returns
 returns c =
     let checked = c .before .before .before .before in
-    string-refused W (checked .before .before .args .s) (sym (started checked) ∙ ap rulingOf (c .before .before .why .given .1))
+    string-refused W (checked .before .before .args .s) (ruled-by (started checked) (c .before .before .why .given .1))
     (c .refused .ensures)
 
 returns-2 : tie.Need-returns-2
@@ -64,7 +64,7 @@ returns-2 c =
     let made = c .before .before in
     let checked = made .before .before .before in
     let start = checked .before .before .args in
-    string-kept W (start .s) (sym (started checked) ∙ ap rulingOf (made .before .enum-told .given .1))
+    string-kept W (start .s) (ruled-by (started checked) (made .before .enum-told .given .1))
     (record {
       found =
           c .before .scan-outcome .ensures ∙ ap scanSaid (made .c-string-length .ensures .found)
@@ -88,7 +88,7 @@ c-string-length-requires : tie.Need-c-string-length-requires
 c-string-length-requires c κs =
     let checked = c .before .before in
     string-accepted W (length (checked .before .before .args .mem .now)) (checked .before .before .args .s)
-    (sym (started checked) ∙ ap rulingOf (c .enum-told .given .1))
+    (ruled-by (started checked) (c .enum-told .given .1))
 
 scan-outcome-requires : tie.Need-scan-outcome-requires
 scan-outcome-requires c κs = search needs

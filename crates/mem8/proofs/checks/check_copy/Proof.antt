@@ -1,11 +1,11 @@
 -- `mem8::checks::check_copy`: the table of two ranges, and then line 4.
 -- Assumes nothing.
-use mathlib.Core.Path.{sym, ap, _∙_}
+use mathlib.Core.Path.{_∙_}
 use native.Mathlib.Omega.{arith}
-use Rattle.model.specs.Answers.{rulingOf}
 use Rattle.model.specs.Refusals.{copyTable}
 use Rattle.model.proofs.RefusalLaws.{line-given, line-passed, lines-passed, append-given, append-passed}
 use borrow.Author.Needs.{needs}
+use Rattle.promises.proofs.Kept.{ruled-by}
 use Rattle.promises.proofs.Tests.{overlap-near, overlap-apart}
 use Rattle.mem8.proofs.checks.check_copy.Statement.{statement}
 use Rattle.mem8.proofs.checks.check_copy.Tie as tie
@@ -18,7 +18,7 @@ enum-known-why c = search needs
 
 returns : tie.Need-returns
 unfolding copyTable
-returns c = append-given _ _ (sym (c .before .before .before .check-ranges .ensures) ∙ ap rulingOf (c .before .why .given .1))
+returns c = append-given _ _ (ruled-by (c .before .before .before .check-ranges .ensures) (c .before .why .given .1))
 
 enum-told : tie.Need-enum-told
 enum-told c = search needs
@@ -32,7 +32,7 @@ returns-2 c =
     let checked = c .before .before .before .before in
     let start = checked .before .args in
     line-given _ _ (overlap-near (start .dest) (start .src) (start .n) (omega (arith, c .before .distance .ensures, c .if1 .taken)))
-    ∙ append-passed _ _ (sym (checked .check-ranges .ensures) ∙ ap rulingOf (c .before .before .enum-told .given .1))
+    ∙ append-passed _ _ (ruled-by (checked .check-ranges .ensures) (c .before .before .enum-told .given .1))
 
 returns-3 : tie.Need-returns-3
 unfolding copyTable
@@ -41,7 +41,7 @@ returns-3 c =
     let start = checked .before .args in
     lines-passed
     ∙ line-passed _ _ (overlap-apart (start .dest) (start .src) (start .n) (omega (arith, c .before .distance .ensures, c .if1 .left)))
-    ∙ append-passed _ _ (sym (checked .check-ranges .ensures) ∙ ap rulingOf (c .before .before .enum-told .given .1))
+    ∙ append-passed _ _ (ruled-by (checked .check-ranges .ensures) (c .before .before .enum-told .given .1))
 
 pub check-copy-spec : {M : Type 1} → statement M
 check-copy-spec =

@@ -1,13 +1,13 @@
 -- `mem8::checks::check_ranges`: the lines of the first range, and then line 3.
 -- Assumes nothing.
-use mathlib.Core.Path.{_≡_, sym, ap, _∙_}
+use mathlib.Core.Path.{_≡_, _∙_}
 use mathlib.Core.List.{[], _∷_}
 use native.Mathlib.Omega.{arith}
 use borrow.Author.Needs.{needs}
-use Rattle.model.specs.Answers.{rulingOf}
 use Rattle.model.specs.Refusals.{none, ruled, rangesTable, fillTable}
 use Rattle.model.proofs.RefusalLaws.{append-given, append-passed, fill-accepted}
 use Rattle.words8.specs.Word.{W}
+use Rattle.promises.proofs.Kept.{ruled-by}
 use Rattle.mem8.proofs.checks.check_ranges.Statement.{statement}
 use Rattle.mem8.proofs.checks.check_ranges.Tie as tie
 use Rattle.mem8.proofs.checks.check_ranges.Reads as reads
@@ -24,7 +24,7 @@ Told =
 passed : (c : Told)
     → ruled (fillTable W (c .before .before .before .args .k) (c .before .before .before .args .first) (c .before .before .before .args .n)) ≡ none
 unfolding fillTable
-passed c = sym (c .before .before .check-range .ensures) ∙ ap rulingOf (c .enum-told .given .1)
+passed c = ruled-by (c .before .before .check-range .ensures) (c .enum-told .given .1)
 
 check-range-requires : tie.Need-check-range-requires
 check-range-requires c κs = search needs
@@ -34,7 +34,7 @@ enum-known-why c = search needs
 
 returns : tie.Need-returns
 unfolding rangesTable
-returns c = append-given (_ ∷ _ ∷ []) (_ ∷ []) (sym (c .before .before .before .check-range .ensures) ∙ ap rulingOf (c .before .why .given .1))
+returns c = append-given (_ ∷ _ ∷ []) (_ ∷ []) (ruled-by (c .before .before .before .check-range .ensures) (c .before .why .given .1))
 
 enum-told : tie.Need-enum-told
 enum-told c = search needs
