@@ -1,75 +1,84 @@
-// How the programs print an answer: a line for each call.
+// How an answer is written as text: into a buffer that is lent, from a place in it on. Each function hands back the place past what it
+// wrote.
+mod write;
+
+use crate::write::write_signed;
 use libc::STDOUT_FILENO;
 use model::Answer;
 use model::Outcome;
-ghost use mathlib.Core.Path.{_≡_};
+pub use write::write_byte;
+pub use write::write_decimal;
+pub use write::write_text;
 ghost use Prim.Native.Nat.{_≤_};
-ghost use lib.IntN.{natAbs};
+ghost use Rattle.model.specs.Answers.{answered, saidOf};
+ghost use Rattle.show.specs.Written.{Room, Wrote};
+ghost use Rattle.show.specs.AnswerText.{slashed, fourCounts, saidText, answerText};
+
+// One more count, after those before it.
+fn write_next_count(out: &mut [u8], at: usize, count: u64) -> usize
+    requires { ⌜ Room 21 at (now out) ⌝ }
+    ensures { λ r. ⌜ Wrote (slashed count) at (now (out .entry)) (now (out .exit)) r ⌝ }
+{
+    let past = write_text(out, at, b"/");
+    write_decimal(out, past, count)
+}
 
 // The counts of 1, 2, 4 and 8 bytes, which stand from place `first` on: 0 for the loads, 4 for the stores.
-fn print_counts(numbers: [u64; 8], first: usize)
-    requires { ⌜ first ≤ 4 ⌝ }
+fn write_counts(out: &mut [u8], at: usize, numbers: [u64; 8], first: usize) -> usize
+    requires { ⌜ (Room 83 at (now out)) × (first ≤ 4) ⌝ }
+    ensures { λ r. ⌜ Wrote (fourCounts numbers first) at (now (out .entry)) (now (out .exit)) r ⌝ }
 {
-    io::print_decimal(STDOUT_FILENO, numbers[first]);
-    let mut i = first + 1;
-    while i < first + 4 {
-        io::write_all(STDOUT_FILENO, b"/");
-        io::print_decimal(STDOUT_FILENO, numbers[i]);
-        i += 1;
-    }
+    let one = write_decimal(out, at, numbers[first]);
+    let two = write_next_count(out, one, numbers[first + 1]);
+    let four = write_next_count(out, two, numbers[first + 2]);
+    write_next_count(out, four, numbers[first + 3])
 }
 
-// How far a number is from 0.
-fn magnitude(number: i32) -> u64
-    ensures { λ r. ⌜ r ≡ natAbs number ⌝ }
+fn write_outcome(out: &mut [u8], at: usize, outcome: Outcome) -> usize
+    requires { ⌜ Room 28 at (now out) ⌝ }
+    ensures { λ r. ⌜ Wrote (saidText (saidOf outcome)) at (now (out .entry)) (now (out .exit)) r ⌝ }
 {
-    // In 64 bits, since the least i32 has no opposite in 32.
-    let wide = number as i64;
-    if wide < 0 {
-        (-wide) as u64
-    } else {
-        wide as u64
-    }
-}
-
-fn print_signed(number: i32) {
-    if number < 0 {
-        io::write_all(STDOUT_FILENO, b"-");
-    }
-    io::print_decimal(STDOUT_FILENO, magnitude(number));
-}
-
-fn print_outcome(outcome: Outcome) {
     match outcome {
         Outcome::Address(address) => {
-            io::write_all(STDOUT_FILENO, b" address ");
-            io::print_decimal(STDOUT_FILENO, address as u64);
+            let past = write_text(out, at, b"address ");
+            write_decimal(out, past, address as u64)
         }
         Outcome::Number(number) => {
-            io::write_all(STDOUT_FILENO, b" number ");
-            print_signed(number);
+            let past = write_text(out, at, b"number ");
+            write_signed(out, past, number)
         }
         Outcome::Length(length) => {
-            io::write_all(STDOUT_FILENO, b" length ");
-            io::print_decimal(STDOUT_FILENO, length as u64);
+            let past = write_text(out, at, b"length ");
+            write_decimal(out, past, length as u64)
         }
         Outcome::Refused(why) => {
-            io::write_all(STDOUT_FILENO, b" refusal ");
-            io::print_decimal(STDOUT_FILENO, why.number());
+            let past = write_text(out, at, b"refusal ");
+            write_decimal(out, past, why.number())
         }
     }
 }
 
-// The name of the call, its outcome, and what it counted.
-pub fn print_answer(name: &[u8], answer: Answer) {
+// The outcome, what was counted, and the end of the line.
+pub fn write_answer(out: &mut [u8], at: usize, answer: Answer) -> usize
+    requires { ⌜ Room 210 at (now out) ⌝ }
+    ensures { λ r. ⌜ Wrote (answerText (answered answer)) at (now (out .entry)) (now (out .exit)) r ⌝ }
+{
     let outcome = answer.outcome;
     let counts = answer.counts;
     let numbers = counts.numbers;
+    let said = write_outcome(out, at, outcome);
+    let loads = write_text(out, said, b" loads ");
+    let loaded = write_counts(out, loads, numbers, 0);
+    let stores = write_text(out, loaded, b" stores ");
+    let stored = write_counts(out, stores, numbers, 4);
+    write_text(out, stored, b"\n")
+}
+
+// The name of a call, and its answer: a line for each call.
+pub fn print_answer(name: &[u8], answer: Answer) {
+    let mut line = [0u8; 210];
+    let end = write_answer(&mut line, 0, answer);
     io::write_all(STDOUT_FILENO, name);
-    print_outcome(outcome);
-    io::write_all(STDOUT_FILENO, b" loads ");
-    print_counts(numbers, 0);
-    io::write_all(STDOUT_FILENO, b" stores ");
-    print_counts(numbers, 4);
-    io::write_all(STDOUT_FILENO, b"\n");
+    io::write_all(STDOUT_FILENO, b" ");
+    io::write_all(STDOUT_FILENO, &line[..end]);
 }

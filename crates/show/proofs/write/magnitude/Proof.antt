@@ -1,4 +1,4 @@
--- `show::magnitude` is the number's distance from 0. In 64 bits the number is what it was in 32 (`widened`), and the opposite of a
+-- `show::write::magnitude` is the number's distance from 0. In 64 bits the number is what it was in 32 (`widened`), and the opposite of a
 -- negative one is its distance (`negated`), which fits there (`distance-fits`).
 -- Assumes nothing.
 use mathlib.Core.Path.{_≡_}
@@ -12,8 +12,8 @@ use borrow.Author.Tests.{ltb-true}
 use mir.Facts.{toZ-ofZ, sfits-widen, fits-natAbs}
 use mir.Syntax.{w32, w64}
 use mir.Val.{SFits, toZ, ofZ}
-use Rattle.show.proofs.magnitude.Statement.{statement}
-use Rattle.show.proofs.magnitude.Tie as tie
+use Rattle.show.proofs.write.magnitude.Statement.{statement}
+use Rattle.show.proofs.write.magnitude.Tie as tie
 
 negated : (z : ℤ) → ltZ z (pos 0) ≡ true → pos 0 -ℤ z ≡ pos (natAbs z)
 negated (pos n) below = absurd (omega (arith, ltb-true n 0 below))
@@ -50,7 +50,8 @@ cast-result c =
 
 cast-result-2 : tie.Need-cast-result-2
 cast-result-2 c =
-    (not-below _ (c .before .fits .number) (c .if1 .left), rw (widened _ (c .before .fits .number)) (fits-natAbs tt (c .before .fits .number)))
+    let fits = c .before .fits .number in
+    (not-below _ fits (c .if1 .left), rw (widened _ fits) (fits-natAbs tt fits))
 
 returns : tie.Need-returns
 returns c = rw (opposite _ (c .before .fits .number) (c .if1 .taken), toZ-ofZ (distance-fits _ (c .before .fits .number)))

@@ -1,0 +1,25 @@
+-- `commands::texts::is_text` tests the length, and then each byte. Assumes nothing.
+use mathlib.Core.Path.{_≡_, _∙_, refl, sym, ap}
+use native.Mathlib.Omega.{arith}
+use borrow.Author.Tests.{eq-eqb, ne-eqb}
+use Rattle.commands.specs.Texts.{isText}
+use borrow.Author.Needs.{needs}
+use Rattle.commands.proofs.texts.is_text.Statement.{statement}
+use Rattle.commands.proofs.texts.is_text.Tie as tie
+use Rattle.commands.proofs.texts.is_text.Reads as reads
+use Rattle.commands.proofs.texts.is_text.Lts as lts
+use Rattle.commands.proofs.texts.starts_with.Reads as starts-with-reads
+
+starts-with-requires : tie.Need-starts-with-requires
+starts-with-requires c κs = search needs
+
+returns : tie.Need-returns
+unfolding isText
+returns c = rw (eq-eqb _ _ (c .before .if1 .taken)) (c .starts-with .ensures)
+
+returns-2 : tie.Need-returns-2
+unfolding isText
+returns-2 c = rw (ne-eqb _ _ (c .if1 .left))
+
+pub is-text-spec : {M : Type 1} → statement M
+is-text-spec = tie.close (tie.spec starts-with-requires returns returns-2)

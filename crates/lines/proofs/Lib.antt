@@ -1,0 +1,3 @@
+pub mod BytesLaws
+pub mod Calls
+pub mod Reasons

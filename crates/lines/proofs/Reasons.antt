@@ -1,0 +1,18 @@
+-- How long a reason and an answer can be.
+-- Assumes nothing.
+use Prim.Native.Nat.{ℕ, _≤_}
+use native.Mathlib.Omega.{arith}
+use lib.ListN.{length}
+use Rattle.commands.specs.declared.Why.{Why}
+use Rattle.commands.specs.declared.Why.the-variants.{TooLong, UnknownWord, WrongFields, NoNumber, TooManyWords, OddDigits, OutsideMemory}
+use Rattle.lines.specs.Lines.{whyText}
+
+pub why-few : (why : Why) → length (whyText why) ≤ 27
+unfolding whyText
+why-few TooLong = omega arith
+why-few UnknownWord = omega arith
+why-few WrongFields = omega arith
+why-few NoNumber = omega arith
+why-few TooManyWords = omega arith
+why-few OddDigits = omega arith
+why-few OutsideMemory = omega arith

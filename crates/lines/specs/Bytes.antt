@@ -1,0 +1,27 @@
+-- `put` and `get`: bytes of the memory as text.
+-- Assumes nothing.
+use mathlib.Core.Path.{_≡_}
+use mathlib.Core.List.{List, [], _++_}
+use Prim.Native.Nat.{ℕ, zero, suc, _+_, _*_, _-_}
+use lib.ListN.{length, getD}
+use Rattle.model.specs.Memory.{byte, view, over}
+use Rattle.show.specs.Numbers.{hexByte}
+use Rattle.commands.specs.Texts.{digitOf}
+
+-- The count bytes from address a, two digits each.
+unfoldable pub hexText : (ℕ → ℕ) → ℕ → ℕ → List ℕ
+hexText f a zero = []
+hexText f a (suc n) = hexText f a n ++ hexByte (f (a + n))
+
+-- The number that two digits make.
+abbrev pub hexNumber : ℕ → ℕ → ℕ
+hexNumber high low = 16 * digitOf high + digitOf low
+
+-- Byte i of a text of digits: a byte, since digits make no more.
+abbrev pub hexAt : List ℕ → ℕ → ℕ
+hexAt hex i = byte (hexNumber (getD hex (2 * i) 0) (getD hex (2 * i + 1) 0)) 0
+
+-- The first n bytes of the text stand in the memory from an address on, and every other byte is as it was.
+pub record Put (W : ℕ) (hex : List ℕ) (address n : ℕ) (ws ws' : List ℕ) : Type 0 where
+  pub size : length ws' ≡ length ws
+  pub bytes : view W ws' ≡ over address n (λ x. hexAt hex (x - address)) (view W ws)
