@@ -36,8 +36,10 @@ const PUTS_AND_GETS: [&str; 28] = [
     "copy 0x2 0X8 0 1", "copy 0x2 0x8 0x0 0xa", "copy 002 0008 0x0 03", "get 0 16", "clear", "get 0 16",
 ];
 
+/// The tour comes first, so that the lines of its errors have the numbers that a reader of it sees.
 pub fn input() -> Vec<u8> {
-    let mut list = List(String::new());
+    let mut list = List(include_str!("../../../../docs/tour.txt").to_string());
+    list.line("clear");
     list.worked();
     list.copies();
     list.moves();
