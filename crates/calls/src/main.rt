@@ -9,10 +9,13 @@ use lines::MOST_ANSWER;
 use lines::answer_line;
 use words8::Word;
 ghost use mathlib.Core.Path.{_≡_};
+ghost use mathlib.Core.Logic.{_⊎_};
 ghost use Prim.Native.Nat.{_+_, _-_, _≤_, _<_, _^_};
 ghost use lib.ListN.{length, take};
-ghost use lib.Seq.{slice};
-ghost use Rattle.calls.specs.Streams.{Sound, Lent};
+ghost use Rattle.bytes.specs.Bytes.{slice};
+ghost use Rattle.commands.specs.Commands.{commandOf};
+ghost use Rattle.lines.specs.Lines.{answerOf, LeftBy};
+ghost use Rattle.calls.specs.Streams.{Waits, Sound, Lent, between, Took, Joined, Within, OneTurn};
 
 // Room for two of the longest answers.
 const MOST_OUTPUT: usize = 2 * MOST_ANSWER;
@@ -53,7 +56,7 @@ fn print(output: &[u8], written: usize)
 // Where the next answer goes: what waits is printed first where it leaves too little room.
 fn make_room(output: &[u8], written: usize) -> usize
     requires { ⌜ written ≤ length (now output) ⌝ }
-    ensures { λ r. ⌜ r ≤ 131079 ⌝ }
+    ensures { λ r. ⌜ (r ≤ 131079) × ((r ≡ written) ⊎ (r ≡ 0)) ⌝ }
 {
     if written > MOST_ANSWER {
         print(output, written);
@@ -65,7 +68,9 @@ fn make_room(output: &[u8], written: usize) -> usize
 // Answers one line, and hands back how much of the output waits.
 fn answer(mem: &mut [Word], line: &[u8], number: u64, output: &mut [u8], written: usize) -> usize
     requires { ⌜ (length (now mem) ≡ 8192) × (length (now output) ≡ 262158) × (written ≤ 262158) ⌝ }
-    ensures { λ r. ⌜ r ≤ 262158 ⌝ }
+    ensures { λ r. ⌜ (r ≤ 262158) × (LeftBy (now (mem .entry)) (now (line .entry)) (commandOf (now (line .entry))) (now (mem .exit)))
+        × (Waits (answerOf (now (mem .entry)) number (now (line .entry)) (commandOf (now (line .entry)))) written
+        (now (output .entry)) r (now (output .exit))) ⌝ }
 {
     let at = make_room(output, written);
     answer_line(mem, line, number, output, at)
@@ -82,7 +87,8 @@ fn take_line(
 ) -> Stream
     requires { ⌜ (Lent (length (now mem)) (length (now input)) (length (now output))) × (Sound stream)
         × (stream .start ≤ end) × (end ≤ next) × (next ≤ stream .end) × (stream .number + 1 < 2 ^ 64) ⌝ }
-    ensures { λ r. ⌜ (Sound r) × (r .end ≡ stream .end) × (r .number ≤ stream .number + 1) ⌝ }
+    ensures { λ r. ⌜ Took (between (stream .start) end (now (input .entry))) next stream (now (mem .entry)) (now (mem .exit))
+        (now (output .entry)) (now (output .exit)) r ⌝ }
 {
     let start = stream.start;
     let number = stream.number + 1;
@@ -114,7 +120,8 @@ fn to_front(input: &mut [u8], start: usize, end: usize) -> usize
 // Reads on. What is left of a line is kept in front of what comes; what waits is printed first, for whoever types the commands.
 fn read_on(input: &mut [u8], output: &[u8], stream: Stream) -> Stream
     requires { ⌜ (length (now input) ≡ 65536) × (length (now output) ≡ 262158) × (Sound stream) ⌝ }
-    ensures { λ r. ⌜ (Sound r) × (r .number ≤ stream .number) ⌝ }
+    ensures { λ r. ⌜ (Sound r) × (r .number ≡ stream .number) × (r .skipping ≡ stream .skipping)
+        × (Joined stream (now (input .entry)) (now (input .exit)) r) ⌝ }
 {
     print(output, stream.written);
     let kept = to_front(input, stream.start, stream.end);
@@ -133,7 +140,8 @@ fn read_on(input: &mut [u8], output: &[u8], stream: Stream) -> Stream
 // The unread input from `start` on.
 fn with_start(stream: Stream, start: usize, skipping: bool) -> Stream
     requires { ⌜ (Sound stream) × (start ≤ stream .end) ⌝ }
-    ensures { λ r. ⌜ (Sound r) × (r .number ≡ stream .number) ⌝ }
+    ensures { λ r. ⌜ (Sound r) × (r .start ≡ start) × (r .end ≡ stream .end) × (r .written ≡ stream .written)
+        × (r .number ≡ stream .number) × (r .skipping ≡ skipping) ⌝ }
 {
     Stream {
         start,
@@ -148,7 +156,8 @@ fn with_start(stream: Stream, start: usize, skipping: bool) -> Stream
 // No newline is there: a line that is too long is answered by what there is of it, and the rest of it is passed over.
 fn within_line(mem: &mut [Word], input: &mut [u8], output: &mut [u8], stream: Stream) -> Stream
     requires { ⌜ (Lent (length (now mem)) (length (now input)) (length (now output))) × (Sound stream) × (stream .number + 1 < 2 ^ 64) ⌝ }
-    ensures { λ r. ⌜ (Sound r) × (r .number ≤ stream .number + 1) ⌝ }
+    ensures { λ r. ⌜ Within stream (now (input .entry)) (now (input .exit)) (now (mem .entry)) (now (mem .exit))
+        (now (output .entry)) (now (output .exit)) r ⌝ }
 {
     let end = stream.end;
     if stream.skipping {
@@ -164,7 +173,8 @@ fn within_line(mem: &mut [Word], input: &mut [u8], output: &mut [u8], stream: St
 // One turn: a line, or what comes next of the input.
 fn turn(mem: &mut [Word], input: &mut [u8], output: &mut [u8], stream: Stream) -> Stream
     requires { ⌜ (Lent (length (now mem)) (length (now input)) (length (now output))) × (Sound stream) × (stream .number + 1 < 2 ^ 64) ⌝ }
-    ensures { λ r. ⌜ (Sound r) × (r .number ≤ stream .number + 1) ⌝ }
+    ensures { λ r. ⌜ OneTurn stream (now (input .entry)) (now (input .exit)) (now (mem .entry)) (now (mem .exit))
+        (now (output .entry)) (now (output .exit)) r ⌝ }
 {
     let newline = find(input, stream.start, stream.end, b'\n');
     if newline == stream.end {

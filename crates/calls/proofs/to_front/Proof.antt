@@ -9,6 +9,7 @@ use borrow.Author.Count.{below-more}
 use borrow.Author.Needs.{needs}
 use lib.ListN.{length, getD, set, take, length-set}
 use lib.Seq.{ext-getD, getD-drop, getD-set-other, getD-set-same, getD-take, length-slice, length-take-le, slice}
+use Rattle.bytes.specs.Bytes.{slice as part}
 use Rattle.calls.proofs.to_front.Statement.{statement}
 use Rattle.calls.proofs.to_front.Tie as tie
 
@@ -74,6 +75,7 @@ same-length : tie.Need-same-length Inv-loop μ-loop
 same-length c = search needs
 
 returns : tie.Need-returns Inv-loop μ-loop
+unfolding part
 returns c = (refl, whole _ (c .before .loop .inv .1) (omega arith) (c .before .before .pre .0) (c .before .before .pre .1))
 
 pub to-front-spec : {M : Type 1} → statement M
