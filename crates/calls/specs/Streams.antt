@@ -23,7 +23,8 @@ pub record Lent (words input output : ℕ) : Type 0 where
   pub inputs : input ≡ 65536
   pub outputs : output ≡ 262158
 
--- The bytes from place a up to place e.
+-- The bytes from place a up to place e, as the language reads `&s[a..e]`. (`slice` is the same list, in the words of the library that finds
+-- the newline.)
 abbrev pub between : ℕ → ℕ → List ℕ → List ℕ
 between a e s = take (e - a) (drop a s)
 

@@ -1,7 +1,7 @@
 -- Laws of the definitions by which a line is read, as loops use them: what is left of a list from place i on, and one element more.
 -- Assumes nothing.
 use mathlib.Core.Path.{_≡_, refl, sym, _∙_, ap}
-use mathlib.Core.Bool.{Bool, true, false, cond}
+use mathlib.Core.Bool.{Bool, true, false, cond, not}
 use mathlib.Core.List.{List, [], _∷_}
 use Prim.Native.Nat.{ℕ, zero, suc, _+_, _*_, _-_, _/_, _<_, _≤_}
 use native.Mathlib.Nat.{div-lt-iff-lt-mul, le-div-iff-mul-le}
@@ -10,12 +10,12 @@ use native.Mathlib.Omega.{arith}
 use lib.Dec.{eqb, ltb, leb}
 use lib.ListN.{length, getD, take, drop, drop-of-length-le, length-drop}
 use lib.Seq.{drop-cons, take-all}
-use borrow.Author.Tests.{ltb-true, ltb-false, leb-true, lt-ltb, le-leb, lt-leb, le-ltb, ne-eqb}
+use borrow.Author.Tests.{ltb-true, ltb-false, leb-true, lt-ltb, le-leb, lt-leb, le-ltb, eq-eqb, ne-eqb}
 use Rattle.commands.specs.declared.fields.Kind.the-variants.{Blank, Field}
 use Rattle.commands.specs.declared.numbers.Number.{Number}
 use Rattle.commands.specs.declared.numbers.Number.the-variants.{Of, None}
 use Rattle.commands.specs.Texts.{starts, digitOf}
-use Rattle.commands.specs.Fields.{front, belongs, fieldOf, fieldEnd, fieldAt, isEmpty}
+use Rattle.commands.specs.Fields.{blank, front, belongs, fieldOf, fieldEnd, fieldAt, isEmpty}
 use Rattle.commands.specs.Numbers.{readOn, digitsIn}
 
 -- What is left from place i on begins with element i.
@@ -180,3 +180,10 @@ read-most base most value n (b ∷ s) few e =
 pub digits-most : (base most n : ℕ) (s : List ℕ) → digitsIn base most s ≡ Of n → n ≤ most
 digits-most base most n [] e = let z : _≡_ {A = ℕ} 0 1 = cc in absurd (omega arith)
 digits-most base most n (b ∷ s) e = read-most base most 0 n (b ∷ s) (omega arith) e
+
+-- `#` belongs to no field; any other byte does where it is no blank.
+pub hash-ends : (b : ℕ) → b ≡ 35 → belongs Field b ≡ false
+hash-ends b is = rw (eq-eqb b 35 is)
+
+pub letter-or-blank : (b : ℕ) → (b ≡ 35 → ⊥) → belongs Field b ≡ not (blank b)
+letter-or-blank b other = rw (ne-eqb b 35 other)

@@ -7,6 +7,7 @@ use native.Mathlib.Numerals.{add-one}
 use native.Mathlib.Omega.{arith}
 use lib.ListN.{length, getD, set, take, drop, replicate, length-append, length-drop, length-set, length-replicate, replicate-append-replicate}
 use lib.Seq.{drop-cons, set-at, append-snoc, drop-length}
+use borrow.Author.Tests.{eq-eqb, ne-eqb}
 use Rattle.model.specs.declared.Work.{Work}
 use Rattle.model.specs.Memory.{byte, view, over, laid}
 use Rattle.model.specs.Ran.{Stored}
@@ -14,6 +15,7 @@ use Rattle.model.proofs.MemoryLaws.{over-in, over-below, over-above, Place, bel
 use Rattle.show.specs.Numbers.{hexByte}
 use Rattle.show.specs.Written.{Wrote}
 use Rattle.show.proofs.Writing.{wrote-none, wrote-then}
+use Rattle.lines.specs.Lines.{getText}
 use Rattle.lines.specs.Bytes.{hexText, hexNumber, hexAt, Put}
 
 -- Two digits for each byte.
@@ -30,6 +32,20 @@ pub hex-more : (f : ℕ → ℕ) (a n b : ℕ) {old mid new : List ℕ} {at past
     → Wrote (hexByte b) past mid new end → Wrote (hexText f a (n + 1)) at old new end
 unfolding hexText
 hex-more f a n b w is v = rw (add-one n, ← is) (wrote-then w v)
+
+-- `get`: the word, and the bytes if there are any.
+abbrev bytesWord : List ℕ
+bytesWord = 98 ∷ 121 ∷ 116 ∷ 101 ∷ 115 ∷ []
+
+module _ (f : ℕ → ℕ) (a n : ℕ) {at m end : ℕ} {old mid new : List ℕ} (word : Wrote bytesWord at old mid m) where
+  pub got-none : n ≡ 0 → Wrote (10 ∷ []) m mid new end → Wrote (getText f a n) at old new end
+  unfolding getText
+  got-none none w = rw (eq-eqb n 0 none) (wrote-then word w)
+
+  pub got-some : {m' m'' : ℕ} {mid' mid'' : List ℕ} → (n ≡ 0 → ⊥) → Wrote (32 ∷ []) m mid mid' m' → Wrote (hexText f a n) m' mid' mid'' m''
+      → Wrote (10 ∷ []) m'' mid'' new end → Wrote (getText f a n) at old new end
+  unfolding getText
+  got-some some space w v = rw (ne-eqb n 0 some) (wrote-then word (wrote-then (wrote-then space w) v))
 
 -- No byte is put yet.
 pub put-none : (W : ℕ) (hex : List ℕ) (a : ℕ) (ws : List ℕ) → Put W hex a 0 ws ws

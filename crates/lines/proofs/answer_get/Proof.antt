@@ -1,12 +1,10 @@
 -- `lines::answer_get` writes `bytes`, and the bytes if there are any. Assumes nothing.
 use mathlib.Core.Path.{_≡_, refl, sym, _∙_, ap}
 use native.Mathlib.Omega.{arith}
-use Rattle.show.proofs.Writing.{wrote-size, wrote-then, wrote-within}
-use borrow.Author.Tests.{eq-eqb, ne-eqb}
+use Rattle.show.proofs.Writing.{wrote-size}
 use Rattle.model.specs.Memory.{view}
 use Rattle.words8.specs.Word.{W}
-use Rattle.lines.specs.Lines.{getText}
-use Rattle.lines.proofs.BytesLaws.{hex-length}
+use Rattle.lines.proofs.BytesLaws.{hex-length, got-none, got-some}
 use borrow.Author.Needs.{needs}
 use Rattle.lines.proofs.answer_get.Statement.{statement}
 use Rattle.lines.proofs.answer_get.Tie as tie
@@ -39,11 +37,9 @@ same-length c =
     ∙ wrote-size (c .before .before .before .before .before .before .before .before .write-text .ensures)
 
 returns : tie.Need-returns
-unfolding getText
 returns c =
-    rw (eq-eqb _ _ (c .before .before .before .before .before .if1 .taken))
-    (wrote-then (c .before .before .before .before .before .before .before .before .write-text .ensures)
-    (c .before .before .write-text2 .ensures))
+    got-none _ _ _ (c .before .before .before .before .before .before .before .before .write-text .ensures) (c .before .before .before .before .before .if1 .taken)
+    (c .before .before .write-text2 .ensures)
 
 slice-aggregate-write-text-3 : tie.Need-slice-aggregate-write-text-3
 slice-aggregate-write-text-3 c = search needs
@@ -100,17 +96,11 @@ same-length-2 c =
     (c .before .before .before .before .before .before .before .before .before .before .before .before .before .before .before .before .before .write-text .ensures)
 
 returns-2 : tie.Need-returns-2
-unfolding getText
 returns-2 c =
-    rw
-    (ne-eqb _ _
-    (c .before .before .before .before .before .before .before .before .before .before .before .before .before .before .if1 .left))
-    (wrote-then
-    (c .before .before .before .before .before .before .before .before .before .before .before .before .before .before .before .before .before .write-text .ensures)
-    (wrote-then
-    (wrote-then (c .before .before .before .before .before .before .before .before .before .before .before .write-text3 .ensures)
-    (c .before .before .before .before .before .before .before .write-bytes .ensures))
-    (c .before .before .write-text4 .ensures)))
+    let at-word = c .before .before .before .before .before .before .before .before .before .before .before .before .before .before .before .before .before in
+    got-some _ _ _ (at-word .write-text .ensures) (c .before .before .before .before .before .before .before .before .before .before .before .before .before .before .if1 .left)
+    (c .before .before .before .before .before .before .before .before .before .before .before .write-text3 .ensures)
+    (c .before .before .before .before .before .before .before .write-bytes .ensures) (c .before .before .write-text4 .ensures)
 
 pub answer-get-spec : {M : Type 1} → statement M
 answer-get-spec =

@@ -1,8 +1,8 @@
 -- `commands::fields::is_of` tests a byte for what it may belong to. Assumes nothing.
 use mathlib.Core.Bool.{not}
-use mathlib.Core.Path.{ap}
-use borrow.Author.Tests.{eq-eqb, ne-eqb}
+use mathlib.Core.Path.{_∙_, sym, ap}
 use borrow.Author.Needs.{needs}
+use Rattle.commands.proofs.Reading.{hash-ends, letter-or-blank}
 use Rattle.commands.proofs.fields.is_of.Statement.{statement}
 use Rattle.commands.proofs.fields.is_of.Tie as tie
 use Rattle.commands.proofs.fields.is_of.Reads as reads
@@ -20,7 +20,7 @@ enum-told-2 : tie.Need-enum-told-2
 enum-told-2 c = search needs
 
 returns : tie.Need-returns
-returns c = rw (c .before .enum-told2 .given .1, eq-eqb _ _ (c .if1 .taken))
+returns c = rw (c .before .enum-told2 .given .1) (sym (hash-ends _ (c .if1 .taken)))
 
 is-blank-requires-2 : tie.Need-is-blank-requires-2
 is-blank-requires-2 c κs = search needs
@@ -35,7 +35,9 @@ returns-2 : tie.Need-returns-2
 returns-2 c = rw (c .before .enum-told .given .1) (c .is-blank .ensures)
 
 returns-3 : tie.Need-returns-3
-returns-3 c = rw (c .before .before .enum-told2 .given .1, ne-eqb _ _ (c .before .if1 .left)) (ap not (c .is-blank2 .ensures))
+returns-3 c =
+    rw (c .before .before .enum-told2 .given .1)
+    (ap not (c .is-blank2 .ensures) ∙ sym (letter-or-blank _ (c .before .if1 .left)))
 
 returns-4 : tie.Need-returns-4
 returns-4 c = rw (c .before .enum-told3 .given .1, c .digit .ensures)

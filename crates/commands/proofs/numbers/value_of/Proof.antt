@@ -1,4 +1,5 @@
--- `commands::numbers::value_of` reads decimal digits, after `-` those of the opposite. Assumes nothing.
+-- `commands::numbers::value_of` reads decimal digits, after `-` those of the opposite. What is
+-- returned comes first: a wrong bound is then refused where the value is. Assumes nothing.
 use mathlib.Core.Path.{_≡_, _∙_, sym, ap}
 use mathlib.Core.List.{[], _∷_}
 use Prim.Native.Nat.{_-_}
@@ -37,17 +38,6 @@ digits-requires c κs = search needs
 enum-known-n : tie.Need-enum-known-n
 enum-known-n c = search needs
 
-negative-requires : tie.Need-negative-requires
-negative-requires c κs =
-    digits-most 10 2147483648 _
-    (take (length (c .before .before .before .before .before .before .before .before .before .args .s .now) - 1)
-    (drop 1 (c .before .before .before .before .before .before .before .before .before .args .s .now)))
-    (sym (c .before .before .before .digits .ensures)
-    ∙ c .before .n .given .1)
-
-enum-told : tie.Need-enum-told
-enum-told c = search needs
-
 returns : tie.Need-returns
 returns c =
     value-below _ (sym (c .before .before .before .before .before .before .before .starts-with .ensures)
@@ -58,6 +48,17 @@ returns-2 : tie.Need-returns-2
 returns-2 c =
     value-below-none _ (sym (c .before .before .before .before .before .starts-with .ensures)
     ∙ c .before .before .before .before .if1 .taken) (sym (c .before .before .digits .ensures) ∙ c .enum-told .given .1)
+
+negative-requires : tie.Need-negative-requires
+negative-requires c κs =
+    digits-most 10 2147483648 _
+    (take (length (c .before .before .before .before .before .before .before .before .before .args .s .now) - 1)
+    (drop 1 (c .before .before .before .before .before .before .before .before .before .args .s .now)))
+    (sym (c .before .before .before .digits .ensures)
+    ∙ c .before .n .given .1)
+
+enum-told : tie.Need-enum-told
+enum-told c = search needs
 
 digits-requires-2 : tie.Need-digits-requires-2
 digits-requires-2 c κs = search needs
