@@ -1,4 +1,4 @@
-// `set_bytes` of impls.rs with what it is made of, as the routines of `copies8` are.
+// `set_bytes` of impls.rs with what it is made of, as the routines of `forward8` are.
 use model::Work;
 use model::join;
 use model::zero;

@@ -1,4 +1,4 @@
-// `compare_bytes` and `c_string_length` of impls.rs, which only load, as the routines of `copies8` are.
+// `compare_bytes` and `c_string_length` of impls.rs, which only load, as the routines of `forward8` are.
 use model::Work;
 use model::join;
 use model::zero;
