@@ -1,11 +1,9 @@
 // The six calls of mod.rs, in its order and under its names, over lent words. Each checks its input, and then does what
 // mod.rs does. None asks anything of its caller.
-mod checks;
-
-use crate::checks::check_copy;
-use crate::checks::check_range;
-use crate::checks::check_ranges;
 use backward8::copy_backward;
+use checks8::check_copy;
+use checks8::check_range;
+use checks8::check_ranges;
 use fills8::set_bytes;
 use forward8::copy_forward;
 use model::Answer;

@@ -17,7 +17,7 @@ use Rattle.mem8.proofs.memset.Tie as tie
 use Rattle.mem8.proofs.memset.Reads as reads
 use Rattle.mem8.proofs.memset.Lts as lts
 use Rattle.fills8.proofs.set_bytes.Reads as set-bytes-reads
-use Rattle.mem8.proofs.checks.check_range.Reads as check-range-reads
+use Rattle.checks8.proofs.check_range.Reads as check-range-reads
 use Rattle.mem8.proofs.fill_byte.Reads as fill-byte-reads
 use Rattle.model.proofs.Answer.new.Reads as new-reads
 use Rattle.model.proofs.Answer.refused.Reads as refused-reads

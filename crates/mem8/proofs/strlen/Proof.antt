@@ -19,7 +19,7 @@ use Rattle.mem8.proofs.strlen.Tie as tie
 use Rattle.mem8.proofs.strlen.Reads as reads
 use Rattle.mem8.proofs.strlen.Lts as lts
 use Rattle.scans8.proofs.c_string_length.Reads as c-string-length-reads
-use Rattle.mem8.proofs.checks.check_range.Reads as check-range-reads
+use Rattle.checks8.proofs.check_range.Reads as check-range-reads
 use Rattle.mem8.proofs.scan_outcome.Reads as scan-outcome-reads
 use Rattle.model.proofs.Answer.new.Reads as new-reads
 use Rattle.model.proofs.Answer.refused.Reads as refused-reads

@@ -1,4 +1,4 @@
--- `mem8::checks::check_copy`: the table of two ranges, and then line 4.
+-- `checks8::check_copy`: the table of two ranges, and then line 4.
 -- Assumes nothing.
 use mathlib.Core.Path.{_∙_}
 use native.Mathlib.Omega.{arith}
@@ -7,8 +7,8 @@ use Rattle.model.proofs.RefusalLaws.{line-given, line-passed, lines-passed, app
 use borrow.Author.Needs.{needs}
 use Rattle.promises.proofs.Kept.{ruled-by}
 use Rattle.promises.proofs.Tests.{overlap-near, overlap-apart}
-use Rattle.mem8.proofs.checks.check_copy.Statement.{statement}
-use Rattle.mem8.proofs.checks.check_copy.Tie as tie
+use Rattle.checks8.proofs.check_copy.Statement.{statement}
+use Rattle.checks8.proofs.check_copy.Tie as tie
 
 check-ranges-requires : tie.Need-check-ranges-requires
 check-ranges-requires c κs = search needs

@@ -1,4 +1,4 @@
--- `mem8::checks::check_range`: line 1, and then the range's.
+-- `checks8::check_range`: line 1, and then the range's.
 -- Assumes nothing.
 use mathlib.Core.Path.{_∙_}
 use native.Mathlib.Omega.{arith}
@@ -7,8 +7,8 @@ use borrow.Author.Tests.{lt-ltb, le-ltb}
 use Rattle.model.specs.Memory.{mostWords}
 use Rattle.model.proofs.RefusalLaws.{line-given, line-passed}
 use Rattle.words8.specs.Word.{W}
-use Rattle.mem8.proofs.checks.check_range.Statement.{statement}
-use Rattle.mem8.proofs.checks.check_range.Tie as tie
+use Rattle.checks8.proofs.check_range.Statement.{statement}
+use Rattle.checks8.proofs.check_range.Tie as tie
 
 returns : tie.Need-returns
 returns c = line-given _ _ (lt-ltb (mostWords W) (c .before .args .k) (omega (arith, c .if1 .taken)))

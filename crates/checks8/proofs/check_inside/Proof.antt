@@ -1,12 +1,12 @@
--- `mem8::checks::check_inside` is one line of the table: an address past the end, or more bytes than are left, is address + n > M.
+-- `checks8::check_inside` is one line of the table: an address past the end, or more bytes than are left, is address + n > M.
 -- Assumes nothing.
 use mathlib.Core.Path.{_∙_}
 use Prim.Native.Nat.{_+_}
 use native.Mathlib.Omega.{arith}
 use borrow.Author.Tests.{lt-ltb, le-ltb}
 use Rattle.model.proofs.RefusalLaws.{line-given, line-passed, lines-passed}
-use Rattle.mem8.proofs.checks.check_inside.Statement.{statement}
-use Rattle.mem8.proofs.checks.check_inside.Tie as tie
+use Rattle.checks8.proofs.check_inside.Statement.{statement}
+use Rattle.checks8.proofs.check_inside.Tie as tie
 
 returns-3 : tie.Need-returns-3
 returns-3 c =

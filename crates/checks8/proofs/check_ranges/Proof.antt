@@ -1,4 +1,4 @@
--- `mem8::checks::check_ranges`: the lines of the first range, and then line 3.
+-- `checks8::check_ranges`: the lines of the first range, and then line 3.
 -- Assumes nothing.
 use mathlib.Core.Path.{_≡_, _∙_}
 use mathlib.Core.List.{[], _∷_}
@@ -8,12 +8,12 @@ use Rattle.model.specs.Refusals.{none, ruled, rangesTable, fillTable}
 use Rattle.model.proofs.RefusalLaws.{append-given, append-passed, fill-accepted}
 use Rattle.words8.specs.Word.{W}
 use Rattle.promises.proofs.Kept.{ruled-by}
-use Rattle.mem8.proofs.checks.check_ranges.Statement.{statement}
-use Rattle.mem8.proofs.checks.check_ranges.Tie as tie
-use Rattle.mem8.proofs.checks.check_ranges.Reads as reads
-use Rattle.mem8.proofs.checks.check_ranges.Lts as lts
-use Rattle.mem8.proofs.checks.check_inside.Reads as check-inside-reads
-use Rattle.mem8.proofs.checks.check_range.Reads as check-range-reads
+use Rattle.checks8.proofs.check_ranges.Statement.{statement}
+use Rattle.checks8.proofs.check_ranges.Tie as tie
+use Rattle.checks8.proofs.check_ranges.Reads as reads
+use Rattle.checks8.proofs.check_ranges.Lts as lts
+use Rattle.checks8.proofs.check_inside.Reads as check-inside-reads
+use Rattle.checks8.proofs.check_range.Reads as check-range-reads
 
 abbrev Told : Type 0
 Told =
