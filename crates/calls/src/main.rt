@@ -2,23 +2,22 @@
 // `lines`; here lines are cut out of the input as it streams in, and answers are gathered before they are printed.
 use bytes::scan::find;
 use commands::MOST_LINE;
-use commands::MOST_WORDS;
+use libc::STDERR_FILENO;
 use libc::STDIN_FILENO;
 use libc::STDOUT_FILENO;
-use lines::MOST_ANSWER;
+use lines::LONGEST_ANSWER;
+use lines::MEMORY_WORDS;
 use lines::answer_line;
 use words8::Word;
 ghost use mathlib.Core.Path.{_≡_};
-ghost use mathlib.Core.Logic.{_⊎_};
-ghost use Prim.Native.Nat.{_+_, _-_, _≤_, _<_, _^_};
+ghost use Prim.Native.Nat.{_-_, _≤_};
 ghost use lib.ListN.{length, take};
 ghost use Rattle.bytes.specs.Bytes.{slice};
-ghost use Rattle.commands.specs.Commands.{commandOf};
-ghost use Rattle.lines.specs.Lines.{answerOf, LeftBy};
-ghost use Rattle.calls.specs.Streams.{Waits, Sound, Lent, between, Took, Joined, Within, OneTurn};
+ghost use Rattle.calls.specs.Sizes.{mostOutput, mostInput};
+ghost use Rattle.calls.specs.Streams.{zeros, Sound, Lent, between, Roomy, Took, Joined, OneTurn, Ended};
 
 // Room for two of the longest answers.
-const MOST_OUTPUT: usize = 2 * MOST_ANSWER;
+const MOST_OUTPUT: usize = 2 * LONGEST_ANSWER;
 
 // What is kept from turn to turn: of the input, the bytes from `start` up to `end` are unread; of the output, the first `written` bytes
 // are not printed yet.
@@ -31,75 +30,85 @@ struct Stream {
     // The line that is being read is too long, and is answered already.
     skipping: bool,
     // More input may come.
-    open: bool,
+    more: bool,
+    // The output could not be written or the input not be read. It has been said, and no more is answered.
+    failed: bool,
 }
 
-fn memory() -> [Word; MOST_WORDS]
-    ensures { λ r. ⌜ length r ≡ 8192 ⌝ }
+// Where the next answer goes.
+struct Place {
+    at: usize,
+    // What waited could not be printed.
+    failed: bool,
+}
+
+fn memory() -> [Word; MEMORY_WORDS]
+    ensures { λ r. ⌜ r ≡ zeros ⌝ }
 {
-    [0; MOST_WORDS]
+    [0; MEMORY_WORDS]
 }
 
 fn output() -> [u8; MOST_OUTPUT]
-    ensures { λ r. ⌜ length r ≡ 262158 ⌝ }
+    ensures { λ r. ⌜ length r ≡ mostOutput ⌝ }
 {
     [0; MOST_OUTPUT]
 }
 
-// Prints what waits.
-fn print(output: &[u8], written: usize)
+// Prints what waits, and hands back whether it could. Where it could not, it says so.
+fn print(output: &[u8], written: usize) -> bool
     requires { ⌜ written ≤ length (now output) ⌝ }
 {
-    io::write_all(STDOUT_FILENO, &output[..written]);
-}
-
-// Where the next answer goes: what waits is printed first where it leaves too little room.
-fn make_room(output: &[u8], written: usize) -> usize
-    requires { ⌜ written ≤ length (now output) ⌝ }
-    ensures { λ r. ⌜ (r ≤ 131079) × ((r ≡ written) ⊎ (r ≡ 0)) ⌝ }
-{
-    if written > MOST_ANSWER {
-        print(output, written);
-        return 0;
+    if io::write_all(STDOUT_FILENO, &output[..written]) {
+        return true;
     }
-    written
+    io::write_all(STDERR_FILENO, b"calls: standard output cannot be written\n");
+    false
 }
 
-// Answers one line, and hands back how much of the output waits.
-fn answer(mem: &mut [Word], line: &[u8], number: u64, output: &mut [u8], written: usize) -> usize
-    requires { ⌜ (length (now mem) ≡ 8192) × (length (now output) ≡ 262158) × (written ≤ 262158) ⌝ }
-    ensures { λ r. ⌜ (r ≤ 262158) × (LeftBy (now (mem .entry)) (now (line .entry)) (commandOf (now (line .entry))) (now (mem .exit)))
-        × (Waits (answerOf (now (mem .entry)) number (now (line .entry)) (commandOf (now (line .entry)))) written
-        (now (output .entry)) r (now (output .exit))) ⌝ }
+// What waits is printed where it leaves too little room for an answer.
+fn make_room(output: &[u8], written: usize) -> Place
+    requires { ⌜ written ≤ length (now output) ⌝ }
+    ensures { λ r. ⌜ Roomy written r ⌝ }
 {
-    let at = make_room(output, written);
-    answer_line(mem, line, number, output, at)
+    if written <= LONGEST_ANSWER {
+        return Place {
+            at: written,
+            failed: false,
+        };
+    }
+    Place {
+        at: 0,
+        failed: !print(output, written),
+    }
 }
 
-// Answers the line that ends before place `end` of the input: the next unread byte is the one at `next`.
+// Answers the line that ends before place `end` of the input: the next unread byte is the one at `next`, and what comes of the line after
+// it is passed over if `skipping`.
 fn take_line(
     mem: &mut [Word],
     input: &[u8],
     end: usize,
     next: usize,
+    skipping: bool,
     output: &mut [u8],
     stream: Stream,
 ) -> Stream
-    requires { ⌜ (Lent (length (now mem)) (length (now input)) (length (now output))) × (Sound stream)
-        × (stream .start ≤ end) × (end ≤ next) × (next ≤ stream .end) × (stream .number + 1 < 2 ^ 64) ⌝ }
-    ensures { λ r. ⌜ Took (between (stream .start) end (now (input .entry))) next stream (now (mem .entry)) (now (mem .exit))
-        (now (output .entry)) (now (output .exit)) r ⌝ }
+    requires { ⌜ (Lent (now mem) (now input) (now output) stream) × (stream .start ≤ end) × (end ≤ next) × (next ≤ stream .end) ⌝ }
+    ensures { λ r. ⌜ (Took (between (stream .start) end (now (input .entry))) next stream (now (mem .entry)) (now (mem .exit))
+        (now (output .entry)) (now (output .exit)) r) × (r .skipping ≡ skipping) ⌝ }
 {
     let start = stream.start;
     let number = stream.number + 1;
-    let written = answer(mem, &input[start..end], number, output, stream.written);
+    let place = make_room(output, stream.written);
+    let written = answer_line(mem, &input[start..end], number, output, place.at);
     Stream {
         start: next,
         end: stream.end,
         written,
         number,
-        skipping: false,
-        open: stream.open,
+        skipping,
+        more: stream.more,
+        failed: place.failed,
     }
 }
 
@@ -117,99 +126,93 @@ fn to_front(input: &mut [u8], start: usize, end: usize) -> usize
     kept
 }
 
+// Reads into `room`, unless what waits could not be printed. Hands back how many bytes came, or a number below 0 where the input could
+// not be read, which it says.
+fn read_more(room: &mut [u8], printed: bool) -> isize {
+    if !printed {
+        return -1;
+    }
+    let got = libc::read(STDIN_FILENO, room);
+    if got < 0 {
+        io::write_all(STDERR_FILENO, b"calls: standard input cannot be read\n");
+    }
+    got
+}
+
 // Reads on. What is left of a line is kept in front of what comes; what waits is printed first, for whoever types the commands.
 fn read_on(input: &mut [u8], output: &[u8], stream: Stream) -> Stream
-    requires { ⌜ (length (now input) ≡ 65536) × (length (now output) ≡ 262158) × (Sound stream) ⌝ }
+    requires { ⌜ (length (now input) ≡ mostInput) × (length (now output) ≡ mostOutput) × (Sound stream) ⌝ }
     ensures { λ r. ⌜ (Sound r) × (r .number ≡ stream .number) × (r .skipping ≡ stream .skipping)
-        × (Joined stream (now (input .entry)) (now (input .exit)) r) ⌝ }
+        × (Joined (slice (stream .start) (stream .end) (now (input .entry))) (now (input .exit)) r) ⌝ }
 {
-    print(output, stream.written);
+    let printed = print(output, stream.written);
     let kept = to_front(input, stream.start, stream.end);
-    let got = libc::read(STDIN_FILENO, &mut input[kept..]);
-    let more = io::count(got, &input[kept..]);
+    let got = read_more(&mut input[kept..], printed);
+    let came = io::count(got, &input[kept..]);
     Stream {
         start: 0,
-        end: kept + more,
+        end: kept + came,
         written: 0,
         number: stream.number,
         skipping: stream.skipping,
-        open: more > 0,
+        more: came > 0,
+        failed: got < 0,
     }
 }
 
-// The unread input from `start` on.
-fn with_start(stream: Stream, start: usize, skipping: bool) -> Stream
-    requires { ⌜ (Sound stream) × (start ≤ stream .end) ⌝ }
-    ensures { λ r. ⌜ (Sound r) × (r .start ≡ start) × (r .end ≡ stream .end) × (r .written ≡ stream .written)
-        × (r .number ≡ stream .number) × (r .skipping ≡ skipping) ⌝ }
-{
-    Stream {
-        start,
-        end: stream.end,
-        written: stream.written,
-        number: stream.number,
-        skipping,
-        open: stream.open,
-    }
-}
-
-// No newline is there: a line that is too long is answered by what there is of it, and the rest of it is passed over.
-fn within_line(mem: &mut [Word], input: &mut [u8], output: &mut [u8], stream: Stream) -> Stream
-    requires { ⌜ (Lent (length (now mem)) (length (now input)) (length (now output))) × (Sound stream) × (stream .number + 1 < 2 ^ 64) ⌝ }
-    ensures { λ r. ⌜ Within stream (now (input .entry)) (now (input .exit)) (now (mem .entry)) (now (mem .exit))
-        (now (output .entry)) (now (output .exit)) r ⌝ }
-{
-    let end = stream.end;
-    if stream.skipping {
-        return read_on(input, output, with_start(stream, end, true));
-    }
-    if end - stream.start > MOST_LINE {
-        let taken = take_line(mem, input, end, end, output, stream);
-        return with_start(taken, end, true);
-    }
-    read_on(input, output, stream)
-}
-
-// One turn: a line, or what comes next of the input.
-fn turn(mem: &mut [Word], input: &mut [u8], output: &mut [u8], stream: Stream) -> Stream
-    requires { ⌜ (Lent (length (now mem)) (length (now input)) (length (now output))) × (Sound stream) × (stream .number + 1 < 2 ^ 64) ⌝ }
+// One turn: a line, or what comes next of the input. Without a newline, a line that is too long is answered by what there is of it, and the
+// rest of it is passed over.
+fn turn(mem: &mut [Word], input: &mut [u8], output: &mut [u8], mut stream: Stream) -> Stream
+    requires { ⌜ Lent (now mem) (now input) (now output) stream ⌝ }
     ensures { λ r. ⌜ OneTurn stream (now (input .entry)) (now (input .exit)) (now (mem .entry)) (now (mem .exit))
         (now (output .entry)) (now (output .exit)) r ⌝ }
 {
-    let newline = find(input, stream.start, stream.end, b'\n');
-    if newline == stream.end {
-        return within_line(mem, input, output, stream);
-    }
+    let end = stream.end;
+    let newline = find(input, stream.start, end, b'\n');
     if stream.skipping {
-        return with_start(stream, newline + 1, false);
+        if newline == end {
+            stream.start = end;
+            return read_on(input, output, stream);
+        }
+        stream.start = newline + 1;
+        stream.skipping = false;
+        return stream;
     }
-    take_line(mem, input, newline, newline + 1, output, stream)
+    if newline < end {
+        return take_line(mem, input, newline, newline + 1, false, output, stream);
+    }
+    if end - stream.start <= MOST_LINE {
+        return read_on(input, output, stream);
+    }
+    take_line(mem, input, end, end, true, output, stream)
 }
 
-// The input has ended: a last line without a newline is answered too. Hands back how much of the output waits.
-fn last_line(mem: &mut [Word], input: &[u8], output: &mut [u8], stream: Stream) -> usize
-    requires { ⌜ (Lent (length (now mem)) (length (now input)) (length (now output))) × (Sound stream) × (stream .number + 1 < 2 ^ 64) ⌝ }
-    ensures { λ r. ⌜ r ≤ 262158 ⌝ }
+// The input has ended: a last line without a newline is answered too, unless something failed.
+fn last_line(mem: &mut [Word], input: &[u8], output: &mut [u8], stream: Stream) -> Stream
+    requires { ⌜ Lent (now mem) (now input) (now output) stream ⌝ }
+    ensures { λ r. ⌜ Ended stream (now (input .entry)) (now (mem .entry)) (now (mem .exit))
+        (now (output .entry)) (now (output .exit)) r ⌝ }
 {
     let end = stream.end;
-    if stream.start < end {
-        let taken = take_line(mem, input, end, end, output, stream);
-        return taken.written;
+    if stream.failed || stream.skipping || stream.start == end {
+        return stream;
     }
-    stream.written
+    take_line(mem, input, end, end, false, output, stream)
 }
 
-// Answers a last line, and prints what waits.
-fn finish(mem: &mut [Word], input: &[u8], output: &mut [u8], stream: Stream)
-    requires { ⌜ (Lent (length (now mem)) (length (now input)) (length (now output))) × (Sound stream) × (stream .number + 1 < 2 ^ 64) ⌝ }
+// Prints what waits, unless something failed.
+fn finish(output: &[u8], stream: Stream)
+    requires { ⌜ stream .written ≤ length (now output) ⌝ }
 {
-    let written = last_line(mem, input, output, stream);
-    print(output, written);
+    if !stream.failed {
+        print(output, stream.written);
+    }
 }
 
-// A proved loop has to end, and nothing says that the input does. So the turns are counted down, from a number that no run uses up.
+// Answers all the input, from a memory that is all zero. A proved loop has to end, and nothing says that the input does. So the turns are
+// counted down, from a number that no run uses up.
 fn run(mem: &mut [Word], input: &mut [u8], output: &mut [u8])
-    requires { ⌜ Lent (length (now mem)) (length (now input)) (length (now output)) ⌝ }
+    requires { ⌜ (now mem ≡ zeros) × (length (now input) ≡ mostInput) × (length (now output) ≡ mostOutput) ⌝ }
 {
     let mut stream = Stream {
         start: 0,
@@ -217,14 +220,16 @@ fn run(mem: &mut [Word], input: &mut [u8], output: &mut [u8])
         written: 0,
         number: 0,
         skipping: false,
-        open: true,
+        more: true,
+        failed: false,
     };
     let mut turns = u64::MAX - 1;
-    while turns > 0 && stream.open {
+    while turns > 0 && stream.more && !stream.failed {
         stream = turn(mem, input, output, stream);
         turns -= 1;
     }
-    finish(mem, input, output, stream);
+    let last = last_line(mem, input, output, stream);
+    finish(output, last);
 }
 
 fn main() {

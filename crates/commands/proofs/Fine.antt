@@ -1,137 +1,175 @@
--- What a command that is not bad may be relied on for: K is at most 8,192 words, and `put` and `get` lie inside the memory.
+-- Every command that a line says is `Fine`.
 -- Assumes nothing.
-use mathlib.Core.Path.{_≡_, refl, sym, _∙_}
+use mathlib.Core.Path.{_≡_, refl, _∙_, ap}
 use mathlib.Core.Bool.{Bool, true, false, cond}
 use mathlib.Core.List.{List, [], _∷_}
-use Prim.Native.Nat.{ℕ, _+_, _/_, _%_, _≤_}
+use Prim.Native.Nat.{ℕ, _+_, _*_, _/_, _%_, _<_, _≤_}
 use native.Mathlib.Omega.{arith}
 use lib.Dec.{eqb, ltb}
-use lib.IntN.{ℤ}
 use lib.ListN.{length}
-use borrow.Author.Tests.{leb-true, ltb-false}
-use Rattle.commands.specs.declared.Call.{Call}
-use Rattle.commands.specs.declared.Call.the-variants.{Copy, Move, Compare, Bcmp}
+use borrow.Author.Tests.{eqb-false, leb-true, ltb-false, eq-eqb, ne-eqb}
+use Rattle.texts.specs.Texts.{isText}
 use Rattle.commands.specs.declared.Command.{Command}
-use Rattle.commands.specs.declared.Command.the-variants.{Nothing, Ranges, Fill, Strlen, Put, Get, Clear, Bad}
+use Rattle.commands.specs.declared.Command.the-variants.{Put, Get, Bad}
 use Rattle.commands.specs.declared.Operand.{Operand}
 use Rattle.commands.specs.declared.Operand.the-variants.{Is, Not}
 use Rattle.commands.specs.declared.Why.{Why}
-use Rattle.commands.specs.declared.Why.the-variants.{WrongFields, OddDigits, NoNumber, TooManyWords}
-use Rattle.commands.specs.declared.fields.Kind.the-variants.{Digit}
-use Rattle.commands.specs.declared.numbers.Value.{Value}
-use Rattle.commands.specs.declared.numbers.Value.the-variants.{Of, None}
-use Rattle.commands.specs.Fields.{belongs, front, fieldAt, isEmpty}
-use Rattle.commands.specs.Numbers.{valueOf}
-use Rattle.commands.specs.Commands.{operandOf, fewWords, lentOf, hexOf, choose, taking, takingValue, within, rangesOf, fillOf, strlenOf, putOf, getOf, clearOf, says, otherOf, knownOf, commandOf}
-
-abbrev pub Fine : List ℕ → Command → Type 0
-Fine s Nothing = Unit {0}
-Fine s (Ranges call k first second n) = k ≤ 8192
-Fine s (Fill k dest c n) = k ≤ 8192
-Fine s (Strlen k start) = k ≤ 8192
-Fine s (Put address) = address + length (fieldAt s 2) / 2 ≤ 65536
-Fine s (Get address count) = address + count ≤ 65536
-Fine s Clear = Unit {0}
-Fine s (Bad why) = Unit {0}
+use Rattle.commands.specs.declared.Why.the-variants.{WrongFields, TooManyWords, OddDigits, NoNumber}
+use Rattle.texts.specs.Digits.{allDigits}
+use Rattle.commands.specs.Fields.{fieldOf, after, afterFields, isEmpty}
+use Rattle.commands.specs.Fine.{Fine}
+use Rattle.commands.specs.Sizes.{memoryBytes}
+use Rattle.commands.specs.Commands.{numberField, fewWords, wordsField, hexField, operandOf, Reading, numbers, wrong, with-number, reading, readFrom, Row, choose, within, inside, rows, made, readBy, lookUp, commandOf}
 
 -- The same, as a type that says which command it is of.
-record FineIn (s : List ℕ) (command : Command) : Type 0 where
-  fine : Fine s command
+record FineIn (most : ℕ) (s : List ℕ) (command : Command) : Type 0 where
+  fine : Fine most s command
 
-bad : {s : List ℕ} {why : Why} → FineIn s (Bad why)
+bad : {most : ℕ} {s : List ℕ} {why : Why} → FineIn most s (Bad why)
 bad = record { fine = tt }
 
-lent-few : (s : List ℕ) (k : ℕ) → lentOf s ≡ Is k → k ≤ 8192
-unfolding lentOf
-lent-few s k e = go (operandOf s 1) e
+-- What a field's number may be relied on for, by its kind.
+record Good (most kind : ℕ) (t : List ℕ) (v : ℕ) : Type 0 where
+  words : kind ≡ 107 → v ≤ most
+  hex : kind ≡ 104 → (length t ≡ 2 * v) × (allDigits t ≡ true)
+
+no-field : {why : Why} {v : ℕ} → Not why ≡ Is v → ⊥
+no-field e = let z : _≡_ {A = ℕ} 0 1 = cc in omega arith
+
+few-words : (most v : ℕ) (o : Operand) → fewWords most o ≡ Is v → v ≤ most
+few-words most v (Is k) e = go (ltb most k) refl e
   where
-    pick : (n : ℕ) (t : Bool) → ltb 8192 n ≡ t → cond t (Not TooManyWords) (Is n) ≡ Is k → k ≤ 8192
-    pick n true l e' = let z : _≡_ {A = ℕ} 0 1 = cc in absurd (omega arith)
-    pick n false l e' = let same : n ≡ k = cc in omega (arith, ltb-false 8192 n l)
+    go : (t : Bool) → ltb most k ≡ t → cond t (Not TooManyWords) (Is k) ≡ Is v → v ≤ most
+    go true many e' = absurd (no-field e')
+    go false few e' = let same : k ≡ v = cc in omega (arith, ltb-false most k few)
+few-words most v (Not why) e = absurd (no-field e)
 
-    go : (o : Operand) → fewWords o ≡ Is k → k ≤ 8192
-    go (Is n) e' = pick n (ltb 8192 n) refl e'
-    go (Not why) e' = let z : _≡_ {A = ℕ} 0 1 = cc in absurd (omega arith)
-
-hex-count : (t : List ℕ) (n : ℕ) → hexOf t ≡ Is n → n ≡ length t / 2
-unfolding hexOf
-hex-count t n e = go (isEmpty t) (eqb (length t % 2) 1) (eqb (front (belongs Digit) t) (length t)) e
+hex-digits : (t : List ℕ) (v : ℕ) → hexField t ≡ Is v → (length t ≡ 2 * v) × (allDigits t ≡ true)
+unfolding hexField
+hex-digits t v e = go (eqb (length t % 2) 1) (allDigits t) refl refl e
   where
-    go : (a b c : Bool) → cond a (Not WrongFields) (cond b (Not OddDigits) (cond c (Is (length t / 2)) (Not NoNumber))) ≡ Is n
-        → n ≡ length t / 2
-    go true b c e' = let z : _≡_ {A = ℕ} 0 1 = cc in absurd (omega arith)
-    go false true c e' = let z : _≡_ {A = ℕ} 0 1 = cc in absurd (omega arith)
-    go false false true e' = cc
-    go false false false e' = let z : _≡_ {A = ℕ} 0 1 = cc in absurd (omega arith)
+    go : (odd all : Bool) → eqb (length t % 2) 1 ≡ odd → allDigits t ≡ all
+        → cond odd (Not OddDigits) (cond all (Is (length t / 2)) (Not NoNumber)) ≡ Is v → (length t ≡ 2 * v) × (allDigits t ≡ true)
+    go true all odd' is e' = absurd (no-field e')
+    go false true odd' is e' =
+        let half : length t / 2 ≡ v = cc in
+        (omega (arith, eqb-false (length t % 2) 1 odd'), is)
+    go false false odd' is e' = absurd (no-field e')
 
--- A command made of parts is fine where its parts are.
-module _ (s : List ℕ) where
-  fine-taking : (o : Operand) (f : ℕ → Command) → ((n : ℕ) → o ≡ Is n → FineIn s (f n)) → FineIn s (taking o f)
-  unfolding taking
-  fine-taking (Is n) f fine = fine n refl
-  fine-taking (Not why) f fine = bad
+good-field : (most kind : ℕ) (t : List ℕ) (v : ℕ) → operandOf most kind t ≡ Is v → Good most kind t v
+unfolding operandOf wordsField
+good-field most kind [] v e = absurd (no-field e)
+good-field most kind (b ∷ t) v e = record {
+  words = λ k. few-words most v (numberField (b ∷ t)) (rw (eq-eqb kind 107 k) at e);
+  hex = λ h. hex-digits (b ∷ t) v (rw h at e);
+}
 
-  fine-value : (v : Value) (f : ℤ → Command) → ((z : ℤ) → FineIn s (f z)) → FineIn s (takingValue v f)
-  unfolding takingValue
-  fine-value (Of z) f fine = fine z
-  fine-value None f fine = bad
+module _ (most : ℕ) where
+  -- Each of the fields that were read.
+  abbrev AllGood : List ℕ → ℕ → (ℕ → ℕ) → List ℕ → Type 0
+  AllGood s i n [] = Unit {0}
+  AllGood s i n (kind ∷ kinds) = (Good most kind (fieldOf s) (n i)) × (AllGood (after s) (i + 1) n kinds)
 
-  fine-choose : (t : Bool) (a b : Command) → (t ≡ true → FineIn s a) → FineIn s b → FineIn s (choose t a b)
-  unfolding choose
-  fine-choose true a b fine other = fine refl
-  fine-choose false a b fine other = other
+  record ReadWell (s : List ℕ) (i : ℕ) (n n' : ℕ → ℕ) (kinds : List ℕ) : Type 0 where
+    before : (j : ℕ) → j < i → n' j ≡ n j
+    good : AllGood s i n' kinds
 
-  within-inside : (address count : ℕ) → within address count ≡ true → address + count ≤ 65536
-  unfolding within
-  within-inside address count e = leb-true _ _ e
+  read-well : (kinds s : List ℕ) (i : ℕ) (n n' : ℕ → ℕ) → readFrom most s i n kinds ≡ numbers n' → ReadWell s i n n' kinds
+  unfolding readFrom reading
+  read-well [] s i n n' e = go (isEmpty (fieldOf s)) e
+    where
+      go : (t : Bool) → cond t (numbers n) (wrong WrongFields) ≡ numbers n' → ReadWell s i n n' []
+      go true e' = let same : n' ≡ n = cc in record { before = λ j below. ap (λ (f : ℕ → ℕ). f j) same; good = tt }
+      go false e' = let z : _≡_ {A = ℕ} 0 1 = cc in absurd (omega arith)
+  read-well (kind ∷ kinds) s i n n' e =
+      go (operandOf most kind (fieldOf s)) refl e (λ v. read-well kinds (after s) (i + 1) (with-number i v n) n')
+    where
+      go : (o : Operand) → operandOf most kind (fieldOf s) ≡ o
+          → reading o (λ v. readFrom most (after s) (i + 1) (with-number i v n) kinds) ≡ numbers n'
+          → ((v : ℕ) → readFrom most (after s) (i + 1) (with-number i v n) kinds ≡ numbers n'
+          → ReadWell (after s) (i + 1) (with-number i v n) n' kinds)
+          → ReadWell s i n n' (kind ∷ kinds)
+      go (Is v) is e' rest =
+          let well = rest v e' in
+          let here : n' i ≡ v = well .before i (omega arith) ∙ rw (eq-eqb i i refl) in
+          record {
+            before = λ j below. well .before j (omega arith) ∙ rw (ne-eqb j i (λ same. omega arith));
+            good = (rw here (good-field most kind (fieldOf s) v is), well .good);
+          }
+      go (Not why) is e' rest = let z : _≡_ {A = ℕ} 0 1 = cc in absurd (omega arith)
 
-  fine-ranges : (call : Call) → FineIn s (rangesOf call s)
-  unfolding rangesOf
-  fine-ranges call =
-      fine-taking _ _ (λ k few. fine-taking _ _ (λ first e. fine-taking _ _ (λ second e'. fine-taking _ _ (λ n e''.
-      fine-choose _ _ _ (λ end. record { fine = lent-few s k few }) bad))))
+  -- A row is fine where what it says of good fields is.
+  module _ (s : List ℕ) where
+    abbrev FineRow : Row → Type 0
+    FineRow r = (n : ℕ → ℕ) → AllGood (after s) 0 n (r .kinds) → FineIn most s (r .says n)
 
-  fine-fill : FineIn s (fillOf s)
-  unfolding fillOf
-  fine-fill =
-      fine-taking _ _ (λ k few. fine-taking _ _ (λ dest e. fine-choose _ _ _ (λ none. bad) (fine-value _ _ (λ c. fine-taking _ _ (λ n e'.
-      fine-choose _ _ _ (λ end. record { fine = lent-few s k few }) bad)))))
+    abbrev FineRows : List Row → Type 0
+    FineRows [] = Unit {0}
+    FineRows (r ∷ rs) = (FineRow r) × (FineRows rs)
 
-  fine-strlen : FineIn s (strlenOf s)
-  unfolding strlenOf
-  fine-strlen = fine-taking _ _ (λ k few. fine-taking _ _ (λ start e. fine-choose _ _ _ (λ end. record { fine = lent-few s k few }) bad))
+    fine-choose : (t : Bool) (a b : Command) → (t ≡ true → FineIn most s a) → FineIn most s b → FineIn most s (choose t a b)
+    unfolding choose
+    fine-choose true a b fine other = fine refl
+    fine-choose false a b fine other = other
 
-  put-inside : (address count : ℕ) → hexOf (fieldAt s 2) ≡ Is count → within address count ≡ true → FineIn s (Put address)
-  put-inside address count hex inside = record { fine = rw (← hex-count (fieldAt s 2) count hex) (within-inside address count inside) }
+    fine-read : (r : Row) → FineRow r → FineIn most s (readBy most s r)
+    unfolding made
+    fine-read r fine = go (readFrom most (after s) 0 (λ i. 0) (r .kinds)) refl
+      where
+        go : (found : Reading) → readFrom most (after s) 0 (λ i. 0) (r .kinds) ≡ found → FineIn most s (made (r .says) found)
+        go (numbers n) e = fine n (read-well (r .kinds) (after s) 0 (λ i. 0) n e .good)
+        go (wrong why) e = bad
 
-  fine-put : FineIn s (putOf s)
-  unfolding putOf
-  fine-put =
-      fine-taking _ _ (λ address e. fine-taking _ _ (λ count hex. fine-choose _ _ _ (λ end. fine-choose _ _ _ (put-inside address count hex) bad) bad))
+    fine-rows : (rs : List Row) → FineRows rs → FineIn most s (lookUp most s rs)
+    unfolding lookUp
+    fine-rows [] fine = bad
+    fine-rows (r ∷ rs) fine =
+        fine-choose (isText (r .word) (fieldOf s)) (readBy most s r) (lookUp most s rs) (λ is. fine-read r (fine .0)) (fine-rows rs (fine .1))
 
-  fine-get : FineIn s (getOf s)
-  unfolding getOf
-  fine-get =
-      fine-taking _ _ (λ address e. fine-taking _ _ (λ count e'. fine-choose _ _ _ (λ end. fine-choose _ _ _ (λ inside.
-      record { fine = within-inside address count inside }) bad) bad))
+    fine-inside : (address count : ℕ) (c : Command) → (address + count ≤ memoryBytes → FineIn most s c) → FineIn most s (inside address count c)
+    unfolding inside within
+    fine-inside address count c fine = fine-choose (within address count) c _ (λ in'. fine (leb-true _ _ in')) bad
 
-  fine-clear : FineIn s (clearOf s)
-  unfolding clearOf
-  fine-clear = fine-choose _ _ _ (λ end. record { fine = tt }) bad
+    put-fine : FineRow (record { word = []; kinds = 110 ∷ 104 ∷ []; says = λ n. inside (n 0) (n 1) (Put (n 0) (n 1)) })
+    unfolding afterFields
+    put-fine n good =
+        let hex = good .1 .0 .hex refl in
+        fine-inside (n 0) (n 1) (Put (n 0) (n 1)) (λ in'. record { fine = (in', hex .0, hex .1) })
 
-  fine-other : FineIn s (otherOf s)
-  unfolding otherOf
-  fine-other = fine-choose _ _ _ (λ is. fine-put) (fine-choose _ _ _ (λ is. fine-get) (fine-choose _ _ _ (λ is. fine-clear) bad))
+    -- The rows, one by one.
+    all-fine : FineRows (rows s)
+    all-fine = (
+      λ n good. record { fine = good .0 .words refl },
+      (
+        λ n good. record { fine = good .0 .words refl },
+        (
+          λ n good. record { fine = good .0 .words refl },
+          (
+            λ n good. record { fine = good .0 .words refl },
+            (
+              λ n good. record { fine = good .0 .words refl },
+              (
+                λ n good. record { fine = good .0 .words refl },
+                (
+                  put-fine,
+                  (
+                    λ n good. fine-inside (n 0) (n 1) (Get (n 0) (n 1)) (λ in'. record { fine = in' }),
+                    (
+                      λ n good. record { fine = tt },
+                      tt,
+                    ),
+                  ),
+                ),
+              ),
+            ),
+          ),
+        ),
+      ),
+    )
 
-  fine-known : FineIn s (knownOf s)
-  unfolding knownOf
-  fine-known =
-      fine-choose _ _ _ (λ is. fine-ranges Copy) (fine-choose _ _ _ (λ is. fine-ranges Move) (fine-choose _ _ _ (λ is. fine-fill)
-      (fine-choose _ _ _ (λ is. fine-ranges Compare) (fine-choose _ _ _ (λ is. fine-ranges Bcmp) (fine-choose _ _ _ (λ is. fine-strlen) fine-other)))))
+    fine-line : FineIn most s (commandOf most s)
+    unfolding commandOf
+    fine-line = fine-choose _ _ _ (λ long. bad) (fine-choose _ _ _ (λ none. record { fine = tt }) (fine-rows (rows s) all-fine))
 
-  fine-line : FineIn s (commandOf s)
-  unfolding commandOf
-  fine-line = fine-choose _ _ _ (λ long. bad) (fine-choose _ _ _ (λ none. record { fine = tt }) fine-known)
-
-  pub fine-command : Fine s (commandOf s)
-  fine-command = fine-line .fine
+    pub fine-command : Fine most s (commandOf most s)
+    fine-command = fine-line .fine

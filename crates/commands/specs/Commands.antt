@@ -1,12 +1,16 @@
--- docs/TEXT-FORM.md, "Commands and answers" and "Bad lines": what a line says. Fields are looked at one by one, and the first thing wrong
--- gives the reason.
+-- docs/TEXT-FORM.md, "Commands and answers" and "Bad lines": what a line says. A command is a row: its word, the kinds of its fields, and
+-- what it says of their numbers. Fields are looked at one by one, and the first thing wrong gives the reason.
 -- Assumes nothing.
 use mathlib.Core.Bool.{Bool, cond}
 use mathlib.Core.List.{List, [], _∷_}
+use Prim.Native.Char.{code}
 use Prim.Native.Nat.{ℕ, _+_, _/_, _%_}
+use Prim.Native.String.{String}
 use lib.Dec.{eqb, leb, ltb}
-use lib.IntN.{ℤ}
-use lib.ListN.{length}
+use lib.IntN.{ℤ, pos}
+use lib.ListN.{length, getD}
+use Rattle.texts.specs.Codes.{codes}
+use Rattle.texts.specs.Texts.{isText}
 use Rattle.commands.specs.declared.Why.{Why}
 use Rattle.commands.specs.declared.Why.the-variants.{TooLong, UnknownWord, WrongFields, NoNumber, TooManyWords, OddDigits, OutsideMemory}
 use Rattle.commands.specs.declared.Call.{Call}
@@ -15,129 +19,144 @@ use Rattle.commands.specs.declared.Command.{Command}
 use Rattle.commands.specs.declared.Command.the-variants.{Nothing, Ranges, Fill, Strlen, Put, Get, Clear, Bad}
 use Rattle.commands.specs.declared.Operand.{Operand}
 use Rattle.commands.specs.declared.Operand.the-variants.{Is, Not}
-use Rattle.commands.specs.declared.fields.Kind.the-variants.{Digit}
-use Rattle.commands.specs.declared.numbers.Number.{Number}
-use Rattle.commands.specs.declared.numbers.Number.the-variants.{Of, None}
-use Rattle.commands.specs.declared.numbers.Value.{Value}
-use Rattle.commands.specs.declared.numbers.Value.the-variants.{Of as OfValue, None as NoValue}
-use Rattle.commands.specs.Texts.{isText}
-use Rattle.commands.specs.Fields.{belongs, front, fieldAt, isEmpty}
-use Rattle.commands.specs.Numbers.{numberOf, valueOf}
+use Rattle.commands.specs.declared.Found.{Found}
+use Rattle.commands.specs.declared.Found.the-variants.{Good, Wrong}
+use Rattle.texts.specs.declared.numbers.Number.{Number}
+use Rattle.texts.specs.declared.numbers.Number.the-variants.{Of, None}
+use Rattle.texts.specs.declared.numbers.Value.{Value}
+use Rattle.texts.specs.declared.numbers.Value.the-variants.{Of as OfValue, None as NoValue}
+use Rattle.texts.specs.Digits.{allDigits}
+use Rattle.commands.specs.Fields.{fieldOf, after, fieldAt, isEmpty}
+use Rattle.texts.specs.Numbers.{numberOf, valueOf}
+use Rattle.commands.specs.Sizes.{mostLine, memoryBytes}
 
+-- `n`: a number.
 abbrev pub given : Number → Operand
 given (Of n) = Is n
 given None = Not NoNumber
 
--- A field that is to be a number.
-unfoldable pub operandOf : List ℕ → ℕ → Operand
-operandOf s i = cond (isEmpty (fieldAt s i)) (Not WrongFields) (given (numberOf (fieldAt s i)))
+unfoldable pub numberField : List ℕ → Operand
+numberField t = given (numberOf t)
 
--- K, the field after the word of every call: up to 8,192 words.
-abbrev pub fewWords : Operand → Operand
-fewWords (Is k) = cond (ltb 8192 k) (Not TooManyWords) (Is k)
-fewWords (Not why) = Not why
+-- `k`: how many words are lent, at most all of them.
+abbrev pub fewWords : ℕ → Operand → Operand
+fewWords most (Is k) = cond (ltb most k) (Not TooManyWords) (Is k)
+fewWords most (Not why) = Not why
 
-unfoldable pub lentOf : List ℕ → Operand
-lentOf s = fewWords (operandOf s 1)
+unfoldable pub wordsField : ℕ → List ℕ → Operand
+wordsField most t = fewWords most (numberField t)
 
--- HEX, as the number of its bytes: an even number of hexadecimal digits.
-unfoldable pub hexOf : List ℕ → Operand
-hexOf t =
+-- `v`: a signed value, which the command takes from the line (`valueAt`).
+abbrev pub good : Value → Operand
+good (OfValue z) = Is 0
+good NoValue = Not NoNumber
+
+unfoldable pub valueField : List ℕ → Operand
+valueField t = good (valueOf t)
+
+-- `h`: hexadecimal digits, an even number of them, as the number of their bytes.
+unfoldable pub hexField : List ℕ → Operand
+hexField t = cond (eqb (length t % 2) 1) (Not OddDigits) (cond (allDigits t) (Is (length t / 2)) (Not NoNumber))
+
+-- A field by the letter of its kind. It must be there.
+unfoldable pub operandOf : ℕ → ℕ → List ℕ → Operand
+operandOf most kind t =
     cond (isEmpty t) (Not WrongFields)
-    (cond (eqb (length t % 2) 1) (Not OddDigits)
-    (cond (eqb (front (belongs Digit) t) (length t)) (Is (length t / 2)) (Not NoNumber)))
+    (cond (eqb kind (code "k")) (wordsField most t)
+    (cond (eqb kind (code "v")) (valueField t)
+    (cond (eqb kind (code "h")) (hexField t)
+    (numberField t))))
+
+-- What the fields of a line are: each one's number, or the first thing wrong.
+pub data Reading : Type 0 where
+  numbers : (ℕ → ℕ) → Reading
+  wrong : Why → Reading
+
+-- The number v for field i.
+abbrev pub with-number : ℕ → ℕ → (ℕ → ℕ) → ℕ → ℕ
+with-number i v n j = cond (eqb j i) v (n j)
+
+unfoldable pub reading : Operand → (ℕ → Reading) → Reading
+reading (Is v) f = f v
+reading (Not why) f = wrong why
+
+-- The fields of s by their kinds, from left to right, the first of them field i. There must be no further one.
+unfoldable pub readFrom : ℕ → List ℕ → ℕ → (ℕ → ℕ) → List ℕ → Reading
+readFrom most s i n [] = cond (isEmpty (fieldOf s)) (numbers n) (wrong WrongFields)
+readFrom most s i n (kind ∷ kinds) =
+    reading (operandOf most kind (fieldOf s)) (λ v. readFrom most (after s) (i + 1) (with-number i v n) kinds)
+
+-- A row: a command's word, the kinds of its fields, and what it says of their numbers.
+pub record Row : Type 0 where
+  pub word : List ℕ
+  pub kinds : List ℕ
+  pub says : (ℕ → ℕ) → Command
+
+abbrev pub row : String → String → ((ℕ → ℕ) → Command) → Row
+row word kinds says = record { word = codes word; kinds = codes kinds; says = says }
 
 -- The first where a test passes, else the second.
 unfoldable pub choose : Bool → Command → Command → Command
 choose test a b = cond test a b
 
--- What is done with a field's number, if it is one.
-unfoldable pub taking : Operand → (ℕ → Command) → Command
-taking (Is n) f = f n
-taking (Not why) f = Bad why
-
-unfoldable pub takingValue : Value → (ℤ → Command) → Command
-takingValue (OfValue z) f = f z
-takingValue NoValue f = Bad NoNumber
-
--- There is no field i, so that the command is whole.
-abbrev pub ending : List ℕ → ℕ → Command → Command
-ending s i c = choose (isEmpty (fieldAt s i)) c (Bad WrongFields)
-
--- `put` and `get` reach the 65,536 bytes of the memory.
+-- `put` and `get` reach the bytes of the memory.
 unfoldable pub within : ℕ → ℕ → Bool
-within address count = leb (address + count) 65536
+within address count = leb (address + count) memoryBytes
 
-abbrev pub inside : ℕ → ℕ → Command → Command
-inside address count c = choose (within address count) c (Bad OutsideMemory)
+unfoldable pub inside : ℕ → ℕ → Command → Command
+inside address count command = choose (within address count) command (Bad OutsideMemory)
 
--- `copy K DEST SRC N`, and `move`, `compare` and `bcmp` like it
-unfoldable pub rangesOf : Call → List ℕ → Command
-rangesOf call s =
-    taking (lentOf s) (λ k.
-    taking (operandOf s 2) (λ first.
-    taking (operandOf s 3) (λ second.
-    taking (operandOf s 4) (λ n.
-    ending s 5 (Ranges call k first second n)))))
+-- The value of field i; 0 where it is none.
+abbrev pub signedOf : Value → ℤ
+signedOf (OfValue z) = z
+signedOf NoValue = pos 0
 
--- `fill K DEST VALUE N`
-unfoldable pub fillOf : List ℕ → Command
-fillOf s =
-    taking (lentOf s) (λ k.
-    taking (operandOf s 2) (λ dest.
-    choose (isEmpty (fieldAt s 3)) (Bad WrongFields)
-    (takingValue (valueOf (fieldAt s 3)) (λ c.
-    taking (operandOf s 4) (λ n.
-    ending s 5 (Fill k dest c n))))))
+unfoldable pub valueAt : List ℕ → ℕ → ℤ
+valueAt s i = signedOf (valueOf (fieldAt s i))
 
--- `strlen K START`
-unfoldable pub strlenOf : List ℕ → Command
-strlenOf s =
-    taking (lentOf s) (λ k.
-    taking (operandOf s 2) (λ start.
-    ending s 3 (Strlen k start)))
+abbrev pub ranges : Call → (ℕ → ℕ) → Command
+ranges call n = Ranges call (n 0) (n 1) (n 2) (n 3)
 
--- `put ADDRESS HEX`
-unfoldable pub putOf : List ℕ → Command
-putOf s =
-    taking (operandOf s 1) (λ address.
-    taking (hexOf (fieldAt s 2)) (λ count.
-    ending s 3 (inside address count (Put address))))
+-- The commands, in the order of docs/TEXT-FORM.md.
+abbrev pub rows : List ℕ → List Row
+rows s =
+    row "copy" "knnn" (ranges Copy)
+    ∷ row "move" "knnn" (ranges Move)
+    ∷ row "fill" "knvn" (λ n. Fill (n 0) (n 1) (valueAt s 3) (n 3))
+    ∷ row "compare" "knnn" (ranges Compare)
+    ∷ row "bcmp" "knnn" (ranges Bcmp)
+    ∷ row "strlen" "kn" (λ n. Strlen (n 0) (n 1))
+    ∷ row "put" "nh" (λ n. inside (n 0) (n 1) (Put (n 0) (n 1)))
+    ∷ row "get" "nn" (λ n. inside (n 0) (n 1) (Get (n 0) (n 1)))
+    ∷ row "clear" "" (λ n. Clear)
+    ∷ []
 
--- `get ADDRESS COUNT`
-unfoldable pub getOf : List ℕ → Command
-getOf s =
-    taking (operandOf s 1) (λ address.
-    taking (operandOf s 2) (λ count.
-    ending s 3 (inside address count (Get address count))))
+-- The row of the line's word, on the fields after it.
+unfoldable pub made : ((ℕ → ℕ) → Command) → Reading → Command
+made says (numbers n) = says n
+made says (wrong why) = Bad why
 
--- `clear`
-unfoldable pub clearOf : List ℕ → Command
-clearOf s = ending s 1 Clear
+abbrev pub readBy : ℕ → List ℕ → Row → Command
+readBy most s r = made (r .says) (readFrom most (after s) 0 (λ i. 0) (r .kinds))
 
--- The first field is the word.
-abbrev pub says : List ℕ → List ℕ → Bool
-says s word = isText word (fieldAt s 0)
+unfoldable pub lookUp : ℕ → List ℕ → List Row → Command
+lookUp most s [] = Bad UnknownWord
+lookUp most s (r ∷ rs) = choose (isText (r .word) (fieldOf s)) (readBy most s r) (lookUp most s rs)
 
--- `put`, `get`, `clear`
-unfoldable pub otherOf : List ℕ → Command
-otherOf s =
-    choose (says s (112 ∷ 117 ∷ 116 ∷ [])) (putOf s)
-    (choose (says s (103 ∷ 101 ∷ 116 ∷ [])) (getOf s)
-    (choose (says s (99 ∷ 108 ∷ 101 ∷ 97 ∷ 114 ∷ [])) (clearOf s)
-    (Bad UnknownWord)))
+-- A line of at most so many bytes; one with no field says nothing. `most` is how many words there are.
+unfoldable pub commandOf : ℕ → List ℕ → Command
+commandOf most s =
+    choose (ltb mostLine (length s)) (Bad TooLong) (choose (isEmpty (fieldOf s)) Nothing (lookUp most s (rows s)))
 
--- `copy`, `move`, `fill`, `compare`, `bcmp`, `strlen`
-unfoldable pub knownOf : List ℕ → Command
-knownOf s =
-    choose (says s (99 ∷ 111 ∷ 112 ∷ 121 ∷ [])) (rangesOf Copy s)
-    (choose (says s (109 ∷ 111 ∷ 118 ∷ 101 ∷ [])) (rangesOf Move s)
-    (choose (says s (102 ∷ 105 ∷ 108 ∷ 108 ∷ [])) (fillOf s)
-    (choose (says s (99 ∷ 111 ∷ 109 ∷ 112 ∷ 97 ∷ 114 ∷ 101 ∷ [])) (rangesOf Compare s)
-    (choose (says s (98 ∷ 99 ∷ 109 ∷ 112 ∷ [])) (rangesOf Bcmp s)
-    (choose (says s (115 ∷ 116 ∷ 114 ∷ 108 ∷ 101 ∷ 110 ∷ [])) (strlenOf s)
-    (otherOf s))))))
+-- The numbers that stand in a list.
+abbrev pub listed : List ℕ → ℕ → ℕ
+listed ns i = getD ns i 0
 
--- A line of at most 16,383 bytes; one with no field says nothing.
-unfoldable pub commandOf : List ℕ → Command
-commandOf s = choose (ltb 16383 (length s)) (Bad TooLong) (choose (isEmpty (fieldAt s 0)) Nothing (knownOf s))
+-- What the code finds, with the numbers that it lists.
+abbrev pub reported : Found → List ℕ → Reading
+reported Good ns = numbers (listed ns)
+reported (Wrong why) ns = wrong why
+
+-- Row i, and a row of no word past the last.
+abbrev pub rowAt : List ℕ → ℕ → Row
+rowAt s i = getD (rows s) i (row "" "" (λ n. Nothing))

@@ -1,4 +1,5 @@
-pub mod Texts
+pub mod Sizes
 pub mod Fields
-pub mod Numbers
 pub mod Commands
+pub mod Tables
+pub mod Fine

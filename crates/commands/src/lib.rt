@@ -1,28 +1,36 @@
 // What a line of text says: docs/TEXT-FORM.md, as functions on slices.
 mod fields;
-mod numbers;
-mod texts;
 
-use crate::fields::Kind;
-use crate::fields::count_front;
-use crate::numbers::Number;
-use crate::numbers::Value;
-use crate::numbers::number_of;
-use crate::numbers::value_of;
-use crate::texts::is_text;
-pub use fields::field_at;
-pub use texts::digit;
+use crate::fields::first_field;
+use fields::field_at;
+pub use fields::field_of;
+use texts::Number;
+use texts::Value;
+use texts::all_digits;
+use texts::number_in;
+use texts::number_of;
+use texts::text_at;
+use texts::value_of;
 ghost use mathlib.Core.Path.{_≡_};
-ghost use Rattle.commands.specs.Fields.{fieldAt, isEmpty};
-ghost use Rattle.commands.specs.Commands.{operandOf, lentOf, hexOf, within, rangesOf, fillOf, strlenOf, putOf, getOf, clearOf, otherOf, knownOf, commandOf};
+ghost use Prim.Native.Nat.{_<_, _≤_};
+ghost use lib.ListN.{length, getD};
+ghost use Rattle.texts.specs.Texts.{numberIn};
+ghost use Rattle.commands.specs.Fields.{fieldEnd};
+ghost use Rattle.commands.specs.Commands.{numberField, wordsField, valueField, hexField, operandOf, readFrom, listed, reported, within, inside, valueAt, rowAt, readBy, commandOf};
+ghost use Rattle.commands.specs.Sizes.{mostFields, rowCount};
+ghost use Rattle.commands.specs.Tables.{wordTable};
 
 // The most bytes of a line.
 pub const MOST_LINE: usize = 16383;
 
-// The words of the memory, and its bytes.
-pub const MOST_WORDS: usize = 8192;
-
+// The bytes of the memory.
 const MOST_BYTES: usize = 65536;
+
+// The most fields of a command, its word apart.
+const MOST_FIELDS: usize = 4;
+
+// The number of commands.
+const ROWS: usize = 9;
 
 // Why a line is bad.
 pub enum Why {
@@ -52,40 +60,41 @@ pub enum Command {
     Fill(usize, usize, i32, usize),
     // How many words are lent, and the start.
     Strlen(usize, usize),
-    // The address. The digits stand in the line.
-    Put(usize),
+    // The address, and how many bytes. Their digits stand in the line.
+    Put(usize, usize),
     // The address, and how many bytes.
     Get(usize, usize),
     Clear,
     Bad(Why),
 }
 
-// A field that is to be a number.
+// What a field is found to be.
 pub enum Operand {
     Is(usize),
     Not(Why),
 }
 
-fn operand_at(line: &[u8], i: usize) -> Operand
-    ensures { λ r. ⌜ r ≡ operandOf (now (line .entry)) i ⌝ }
+// What the fields of a command are found to be.
+pub enum Found {
+    Good,
+    Wrong(Why),
+}
+
+fn number_field(text: &[u8]) -> Operand
+    ensures { λ r. ⌜ r ≡ numberField (now (text .entry)) ⌝ }
 {
-    let text = field_at(line, i);
-    if text.len() == 0 {
-        return Operand::Not(Why::WrongFields);
-    }
     match number_of(text) {
         Number::Of(n) => Operand::Is(n),
         Number::None => Operand::Not(Why::NoNumber),
     }
 }
 
-// K, which is the first field after the word of every call.
-fn lent(line: &[u8]) -> Operand
-    ensures { λ r. ⌜ r ≡ lentOf (now (line .entry)) ⌝ }
+fn words_field(text: &[u8], most: usize) -> Operand
+    ensures { λ r. ⌜ r ≡ wordsField most (now (text .entry)) ⌝ }
 {
-    match operand_at(line, 1) {
+    match number_field(text) {
         Operand::Is(k) => {
-            if k > MOST_WORDS {
+            if k > most {
                 return Operand::Not(Why::TooManyWords);
             }
             Operand::Is(k)
@@ -94,21 +103,65 @@ fn lent(line: &[u8]) -> Operand
     }
 }
 
-// HEX, as the number of its bytes.
-fn hex_at(line: &[u8], i: usize) -> Operand
-    ensures { λ r. ⌜ r ≡ hexOf (fieldAt (now (line .entry)) i) ⌝ }
+fn value_field(text: &[u8]) -> Operand
+    ensures { λ r. ⌜ r ≡ valueField (now (text .entry)) ⌝ }
 {
-    let text = field_at(line, i);
-    if text.len() == 0 {
-        return Operand::Not(Why::WrongFields);
+    match value_of(text) {
+        Value::Of(_) => Operand::Is(0),
+        Value::None => Operand::Not(Why::NoNumber),
     }
+}
+
+fn hex_field(text: &[u8]) -> Operand
+    ensures { λ r. ⌜ r ≡ hexField (now (text .entry)) ⌝ }
+{
     if text.len() % 2 == 1 {
         return Operand::Not(Why::OddDigits);
     }
-    if count_front(text, Kind::Digit) == text.len() {
+    if all_digits(text) {
         return Operand::Is(text.len() / 2);
     }
     Operand::Not(Why::NoNumber)
+}
+
+// A field by the letter of its kind.
+fn operand_of(text: &[u8], kind: u8, most: usize) -> Operand
+    ensures { λ r. ⌜ r ≡ operandOf most kind (now (text .entry)) ⌝ }
+{
+    if text.len() == 0 {
+        return Operand::Not(Why::WrongFields);
+    }
+    match kind {
+        b'k' => words_field(text, most),
+        b'v' => value_field(text),
+        b'h' => hex_field(text),
+        _ => number_field(text),
+    }
+}
+
+// Reads the fields of `s` by their kinds, from left to right, up to the first thing wrong. Their numbers go into `numbers`.
+fn read_fields(s: &[u8], kinds: &[u8], most: usize, numbers: &mut [usize; MOST_FIELDS]) -> Found
+    requires { ⌜ (length (now kinds) ≤ mostFields) × (length (now numbers) ≡ mostFields) ⌝ }
+    ensures { λ r. ⌜ readFrom most (now (s .entry)) 0 (listed (now (numbers .entry))) (now (kinds .entry)) ≡ reported r (now (numbers .exit)) ⌝ }
+{
+    let mut rest = s;
+    let mut i = 0;
+    while i < kinds.len() {
+        let found = first_field(rest);
+        let start = found.start;
+        let end = found.end;
+        match operand_of(&rest[start..end], kinds[i], most) {
+            Operand::Is(n) => numbers[i] = n,
+            Operand::Not(why) => return Found::Wrong(why),
+        }
+        rest = &rest[end..];
+        i += 1;
+    }
+    let further = first_field(rest);
+    if further.start == further.end {
+        return Found::Good;
+    }
+    Found::Wrong(Why::WrongFields)
 }
 
 // Whether bytes lie inside the memory. The count is held against what is left, so that nothing can wrap.
@@ -124,183 +177,86 @@ fn is_inside(address: usize, count: usize) -> bool
     true
 }
 
-// Whether a line has no field i.
-fn ends_at(line: &[u8], i: usize) -> bool
-    ensures { λ r. ⌜ r ≡ isEmpty (fieldAt (now (line .entry)) i) ⌝ }
+fn inside_memory(address: usize, count: usize, command: Command) -> Command
+    ensures { λ r. ⌜ r ≡ inside address count command ⌝ }
 {
-    field_at(line, i).len() == 0
+    if is_inside(address, count) {
+        return command;
+    }
+    Command::Bad(Why::OutsideMemory)
 }
 
-fn ranges(call: Call, line: &[u8]) -> Command
-    ensures { λ r. ⌜ r ≡ rangesOf call (now (line .entry)) ⌝ }
+// The value of field i; 0 where it is none.
+fn value_at(line: &[u8], i: usize) -> i32
+    ensures { λ r. ⌜ r ≡ valueAt (now (line .entry)) i ⌝ }
 {
-    let k = match lent(line) {
-        Operand::Is(k) => k,
-        Operand::Not(why) => return Command::Bad(why),
-    };
-    let first = match operand_at(line, 2) {
-        Operand::Is(first) => first,
-        Operand::Not(why) => return Command::Bad(why),
-    };
-    let second = match operand_at(line, 3) {
-        Operand::Is(second) => second,
-        Operand::Not(why) => return Command::Bad(why),
-    };
-    let n = match operand_at(line, 4) {
-        Operand::Is(n) => n,
-        Operand::Not(why) => return Command::Bad(why),
-    };
-    if ends_at(line, 5) {
-        return Command::Ranges(call, k, first, second, n);
-    }
-    Command::Bad(Why::WrongFields)
-}
-
-fn fill(line: &[u8]) -> Command
-    ensures { λ r. ⌜ r ≡ fillOf (now (line .entry)) ⌝ }
-{
-    let k = match lent(line) {
-        Operand::Is(k) => k,
-        Operand::Not(why) => return Command::Bad(why),
-    };
-    let dest = match operand_at(line, 2) {
-        Operand::Is(dest) => dest,
-        Operand::Not(why) => return Command::Bad(why),
-    };
-    if ends_at(line, 3) {
-        return Command::Bad(Why::WrongFields);
-    }
-    let c = match value_of(field_at(line, 3)) {
+    match value_of(field_at(line, i)) {
         Value::Of(c) => c,
-        Value::None => return Command::Bad(Why::NoNumber),
-    };
-    let n = match operand_at(line, 4) {
-        Operand::Is(n) => n,
-        Operand::Not(why) => return Command::Bad(why),
-    };
-    if ends_at(line, 5) {
-        return Command::Fill(k, dest, c, n);
+        Value::None => 0,
     }
-    Command::Bad(Why::WrongFields)
 }
 
-fn strlen(line: &[u8]) -> Command
-    ensures { λ r. ⌜ r ≡ strlenOf (now (line .entry)) ⌝ }
+// What a row says of the numbers of its fields.
+fn say(line: &[u8], row: usize, numbers: &[usize; MOST_FIELDS]) -> Command
+    requires { ⌜ row < rowCount ⌝ }
+    ensures { λ r. ⌜ r ≡ rowAt (now (line .entry)) row .says (listed (now (numbers .entry))) ⌝ }
 {
-    let k = match lent(line) {
-        Operand::Is(k) => k,
-        Operand::Not(why) => return Command::Bad(why),
-    };
-    let start = match operand_at(line, 2) {
-        Operand::Is(start) => start,
-        Operand::Not(why) => return Command::Bad(why),
-    };
-    if ends_at(line, 3) {
-        return Command::Strlen(k, start);
+    let a = numbers[0];
+    let b = numbers[1];
+    let c = numbers[2];
+    let d = numbers[3];
+    match row {
+        0 => Command::Ranges(Call::Copy, a, b, c, d),
+        1 => Command::Ranges(Call::Move, a, b, c, d),
+        2 => Command::Fill(a, b, value_at(line, 3), d),
+        3 => Command::Ranges(Call::Compare, a, b, c, d),
+        4 => Command::Ranges(Call::Bcmp, a, b, c, d),
+        5 => Command::Strlen(a, b),
+        6 => inside_memory(a, b, Command::Put(a, b)),
+        7 => inside_memory(a, b, Command::Get(a, b)),
+        _ => Command::Clear,
     }
-    Command::Bad(Why::WrongFields)
 }
 
-fn put(line: &[u8]) -> Command
-    ensures { λ r. ⌜ r ≡ putOf (now (line .entry)) ⌝ }
+// The commands' words, and the kinds of their fields, in the order of docs/TEXT-FORM.md.
+fn row_of(word: &[u8]) -> usize
+    ensures { λ r. ⌜ r ≡ numberIn rowCount wordTable (now (word .entry)) ⌝ }
 {
-    let address = match operand_at(line, 1) {
-        Operand::Is(address) => address,
-        Operand::Not(why) => return Command::Bad(why),
-    };
-    let count = match hex_at(line, 2) {
-        Operand::Is(count) => count,
-        Operand::Not(why) => return Command::Bad(why),
-    };
-    if ends_at(line, 3) {
-        if is_inside(address, count) {
-            return Command::Put(address);
-        }
-        return Command::Bad(Why::OutsideMemory);
-    }
-    Command::Bad(Why::WrongFields)
+    number_in(
+        b"copy;move;fill;compare;bcmp;strlen;put;get;clear;",
+        ROWS,
+        word,
+    )
 }
 
-fn get(line: &[u8]) -> Command
-    ensures { λ r. ⌜ r ≡ getOf (now (line .entry)) ⌝ }
+fn known(line: &[u8], row: usize, end: usize, most: usize) -> Command
+    requires { ⌜ (row < rowCount) × (end ≡ fieldEnd (now line)) × (end ≤ length (now line)) ⌝ }
+    ensures { λ r. ⌜ r ≡ readBy most (now (line .entry)) (rowAt (now (line .entry)) row) ⌝ }
 {
-    let address = match operand_at(line, 1) {
-        Operand::Is(address) => address,
-        Operand::Not(why) => return Command::Bad(why),
-    };
-    let count = match operand_at(line, 2) {
-        Operand::Is(count) => count,
-        Operand::Not(why) => return Command::Bad(why),
-    };
-    if ends_at(line, 3) {
-        if is_inside(address, count) {
-            return Command::Get(address, count);
-        }
-        return Command::Bad(Why::OutsideMemory);
+    let kinds = text_at(b"knnn;knnn;knvn;knnn;knnn;kn;nh;nn;;", row);
+    let mut numbers = [0; MOST_FIELDS];
+    match read_fields(&line[end..], kinds, most, &mut numbers) {
+        Found::Good => say(line, row, &numbers),
+        Found::Wrong(why) => Command::Bad(why),
     }
-    Command::Bad(Why::WrongFields)
 }
 
-fn clear(line: &[u8]) -> Command
-    ensures { λ r. ⌜ r ≡ clearOf (now (line .entry)) ⌝ }
-{
-    if ends_at(line, 1) {
-        return Command::Clear;
-    }
-    Command::Bad(Why::WrongFields)
-}
-
-// The commands that are no calls.
-fn other(line: &[u8]) -> Command
-    ensures { λ r. ⌜ r ≡ otherOf (now (line .entry)) ⌝ }
-{
-    let word = field_at(line, 0);
-    if is_text(word, b"put") {
-        return put(line);
-    }
-    if is_text(word, b"get") {
-        return get(line);
-    }
-    if is_text(word, b"clear") {
-        return clear(line);
-    }
-    Command::Bad(Why::UnknownWord)
-}
-
-fn known(line: &[u8]) -> Command
-    ensures { λ r. ⌜ r ≡ knownOf (now (line .entry)) ⌝ }
-{
-    let word = field_at(line, 0);
-    if is_text(word, b"copy") {
-        return ranges(Call::Copy, line);
-    }
-    if is_text(word, b"move") {
-        return ranges(Call::Move, line);
-    }
-    if is_text(word, b"fill") {
-        return fill(line);
-    }
-    if is_text(word, b"compare") {
-        return ranges(Call::Compare, line);
-    }
-    if is_text(word, b"bcmp") {
-        return ranges(Call::Bcmp, line);
-    }
-    if is_text(word, b"strlen") {
-        return strlen(line);
-    }
-    other(line)
-}
-
-// What a line says. Of a line that is too long, any part that is too long will do.
-pub fn command_of(line: &[u8]) -> Command
-    ensures { λ r. ⌜ r ≡ commandOf (now (line .entry)) ⌝ }
+// What a line says. Of a line that is too long, any part that is too long will do. There are `most` words to lend.
+pub fn command_of(line: &[u8], most: usize) -> Command
+    ensures { λ r. ⌜ r ≡ commandOf most (now (line .entry)) ⌝ }
 {
     if line.len() > MOST_LINE {
         return Command::Bad(Why::TooLong);
     }
-    if ends_at(line, 0) {
+    let word = first_field(line);
+    let start = word.start;
+    let end = word.end;
+    if start == end {
         return Command::Nothing;
     }
-    known(line)
+    let row = row_of(&line[start..end]);
+    if row == ROWS {
+        return Command::Bad(Why::UnknownWord);
+    }
+    known(line, row, end, most)
 }

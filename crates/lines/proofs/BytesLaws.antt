@@ -1,28 +1,36 @@
 -- Laws of `put`, `get` and `clear`, as loops use them: one byte, or one word, more.
 -- Assumes nothing.
 use mathlib.Core.Path.{_≡_, refl, sym, _∙_, ap, fun-ext}
-use mathlib.Core.List.{List, [], _∷_, _++_, append-nil}
-use Prim.Native.Nat.{ℕ, zero, suc, _+_, _*_, _-_, _/_, _%_, _<_, _≤_}
+use mathlib.Core.List.{List, _∷_, _++_, append-nil}
+use Prim.Native.Nat.{ℕ, zero, suc, _+_, _*_, _-_, _^_, _/_, _<_, _≤_}
+use native.Mathlib.Nat.{pow-le-pow-right}
 use native.Mathlib.Numerals.{add-one}
 use native.Mathlib.Omega.{arith}
-use lib.ListN.{length, getD, set, take, drop, replicate, length-append, length-drop, length-set, length-replicate, replicate-append-replicate}
+use lib.ListN.{length, getD, set, drop, replicate, length-append, length-set, length-replicate, replicate-append-replicate}
 use lib.Seq.{drop-cons, set-at, append-snoc, drop-length}
 use borrow.Author.Tests.{eq-eqb, ne-eqb}
 use Rattle.model.specs.declared.Work.{Work}
-use Rattle.model.specs.Memory.{byte, view, over, laid}
+use Rattle.model.specs.Memory.{byte, view, over, laid, readLE}
+use Rattle.model.proofs.ByteLaws.{byte-lt, readLE-lt, readLE-byte, readLE-one, readLE-append}
+use Rattle.texts.specs.Codes.{codes}
+use Rattle.texts.specs.Digits.{digitOf}
+use Rattle.words8.specs.Word.{W}
 use Rattle.model.specs.Ran.{Stored}
-use Rattle.model.proofs.MemoryLaws.{over-in, over-below, over-above, Place, below, inside, above, place}
+use Rattle.model.proofs.MemoryLaws.{over-in, over-below, over-above, over-cong, Place, below, inside, above, place}
 use Rattle.show.specs.Numbers.{hexByte}
 use Rattle.show.specs.Written.{Wrote}
 use Rattle.show.proofs.Writing.{wrote-none, wrote-then}
 use Rattle.lines.specs.Lines.{getText}
-use Rattle.lines.specs.Bytes.{hexText, hexNumber, hexAt, Put}
+use Rattle.lines.specs.Bytes.{hexText, hexNumber, hexAt, Put, PutNext}
 
 -- Two digits for each byte.
 pub hex-length : (f : ℕ → ℕ) (a n : ℕ) → length (hexText f a n) ≡ 2 * n
 unfolding hexText
 hex-length f a zero = refl
 hex-length f a (suc n) = simp length-append (omega (arith, hex-length f a n))
+
+pub hex-few : (f : ℕ → ℕ) (a n : ℕ) → length (hexText f a n) ≤ 2 * n
+hex-few f a n = omega (arith, hex-length f a n)
 
 pub unwritten : (f : ℕ → ℕ) (a at : ℕ) (old : List ℕ) → at ≤ length old → Wrote (hexText f a 0) at old old at
 unfolding hexText
@@ -35,15 +43,15 @@ hex-more f a n b w is v = rw (add-one n, ← is) (wrote-then w v)
 
 -- `get`: the word, and the bytes if there are any.
 abbrev bytesWord : List ℕ
-bytesWord = 98 ∷ 121 ∷ 116 ∷ 101 ∷ 115 ∷ []
+bytesWord = codes "bytes"
 
 module _ (f : ℕ → ℕ) (a n : ℕ) {at m end : ℕ} {old mid new : List ℕ} (word : Wrote bytesWord at old mid m) where
-  pub got-none : n ≡ 0 → Wrote (10 ∷ []) m mid new end → Wrote (getText f a n) at old new end
+  pub got-none : n ≡ 0 → Wrote (codes "\n") m mid new end → Wrote (getText f a n) at old new end
   unfolding getText
   got-none none w = rw (eq-eqb n 0 none) (wrote-then word w)
 
-  pub got-some : {m' m'' : ℕ} {mid' mid'' : List ℕ} → (n ≡ 0 → ⊥) → Wrote (32 ∷ []) m mid mid' m' → Wrote (hexText f a n) m' mid' mid'' m''
-      → Wrote (10 ∷ []) m'' mid'' new end → Wrote (getText f a n) at old new end
+  pub got-some : {m' m'' : ℕ} {mid' mid'' : List ℕ} → (n ≡ 0 → ⊥) → Wrote (codes " ") m mid mid' m' → Wrote (hexText f a n) m' mid' mid'' m''
+      → Wrote (codes "\n") m'' mid'' new end → Wrote (getText f a n) at old new end
   unfolding getText
   got-some some space w v = rw (ne-eqb n 0 some) (wrote-then word (wrote-then (wrote-then space w) v))
 
@@ -59,37 +67,94 @@ put-none W hex a ws = record { size = refl; bytes = fun-ext (λ x. sym (go x (pl
     go x (inside l m) = absurd (omega arith)
     go x (above l) = over-above a 0 g (view W ws) x l
 
--- A store of one byte behind n.
-over-more : (a n v : ℕ) (g f : ℕ → ℕ) → byte v 0 ≡ g (a + n) → over (a + n) 1 (laid v (a + n)) (over a n g f) ≡ over a (n + 1) g f
-over-more a n v g f is = fun-ext (λ x. go x (place a n x) (place (a + n) 1 x))
+-- What is put behind n bytes is put with them.
+over-join : (a n m : ℕ) (g f : ℕ → ℕ) → over (a + n) m g (over a n g f) ≡ over a (n + m) g f
+over-join a n m g f = fun-ext (λ x. go x (place a n x) (place (a + n) m x))
   where
-    go : (x : ℕ) → Place a n x → Place (a + n) 1 x → over (a + n) 1 (laid v (a + n)) (over a n g f) x ≡ over a (n + 1) g f x
+    go : (x : ℕ) → Place a n x → Place (a + n) m x → over (a + n) m g (over a n g f) x ≡ over a (n + m) g f x
     go x (below l) q =
-        over-below (a + n) 1 (laid v (a + n)) (over a n g f) x (omega arith) ∙ over-below a n g f x l
-        ∙ sym (over-below a (n + 1) g f x l)
-    go x (inside l m) q =
-        over-below (a + n) 1 (laid v (a + n)) (over a n g f) x m ∙ over-in a n g f x l m
-        ∙ sym (over-in a (n + 1) g f x l (omega arith))
-    go x (above l) (below m) = absurd (omega arith)
-    go x (above l) (inside l' m) =
-        let same : x ≡ a + n = omega arith in
-        let none : x - (a + n) ≡ 0 = omega arith in
-        over-in (a + n) 1 (laid v (a + n)) (over a n g f) x l' m ∙ rw none is ∙ ap g (sym same)
-        ∙ sym (over-in a (n + 1) g f x (omega arith) (omega arith))
-    go x (above l) (above m) =
-        over-above (a + n) 1 (laid v (a + n)) (over a n g f) x m ∙ over-above a n g f x l
-        ∙ sym (over-above a (n + 1) g f x (omega arith))
+        over-below (a + n) m g (over a n g f) x (omega arith) ∙ over-below a n g f x l ∙ sym (over-below a (n + m) g f x l)
+    go x (inside l k) q =
+        over-below (a + n) m g (over a n g f) x k ∙ over-in a n g f x l k ∙ sym (over-in a (n + m) g f x l (omega arith))
+    go x (above l) (below k) = absurd (omega arith)
+    go x (above l) (inside l' k) =
+        over-in (a + n) m g (over a n g f) x l' k ∙ sym (over-in a (n + m) g f x (omega arith) (omega arith))
+    go x (above l) (above k) =
+        over-above (a + n) m g (over a n g f) x k ∙ over-above a n g f x l ∙ sym (over-above a (n + m) g f x (omega arith))
 
-pub put-more : {W : ℕ} {hex : List ℕ} {a n v : ℕ} {ws mid new : List ℕ} {work : Work} → Put W hex a n ws mid
-    → v ≡ hexNumber (getD hex (2 * n) 0) (getD hex (2 * n + 1) 0) → Stored W 1 (a + n) v mid new work → Put W hex a (n + 1) ws new
-put-more {W} {hex} {a} {n} {v} {ws} p is s =
-    let back : a + n - a ≡ n = omega arith in
+pub put-then : {W : ℕ} {hex : List ℕ} {a i r : ℕ} {ws mid new : List ℕ} → Put W hex a i ws mid → PutNext W hex a i mid new r
+    → Put W hex a r ws new
+put-then {W} {hex} {a} {i} {r} {ws} p q =
+    let sum : i + (r - i) ≡ r = omega (arith, q .more) in
     record {
-      size = s .size ∙ p .size;
+      size = q .size ∙ p .size;
       bytes =
-          s .bytes ∙ ap (over (a + n) 1 (laid v (a + n))) (p .bytes)
-          ∙ over-more a n v (λ x. hexAt hex (x - a)) (view W ws) (rw (back, is));
+          q .bytes ∙ ap (over (a + i) (r - i) (λ x. hexAt hex (x - a))) (p .bytes)
+          ∙ over-join a i (r - i) (λ x. hexAt hex (x - a)) (view W ws) ∙ ap (λ (n : ℕ). over a n (λ x. hexAt hex (x - a)) (view W ws)) sum;
     }
+
+-- The bytes of a text are bytes, and two digits make one.
+hex-lt : (hex : List ℕ) (i : ℕ) → hexAt hex i < 256
+hex-lt hex i = byte-lt (hexNumber (getD hex (2 * i) 0) (getD hex (2 * i + 1) 0)) 0
+
+pub hex-byte : (hex : List ℕ) (i v : ℕ) → digitOf (getD hex (2 * i) 0) < 16 → digitOf (getD hex (2 * i + 1) 0) < 16
+    → v ≡ hexNumber (getD hex (2 * i) 0) (getD hex (2 * i + 1) 0) → v ≡ hexAt hex i
+hex-byte hex i v high low is = omega arith
+
+-- A store of the number that w bytes of the text make puts these bytes.
+pub put-stored : {W : ℕ} {ws ws' : List ℕ} {work : Work} (hex : List ℕ) (a i w at v : ℕ) → Stored W w at v ws ws' work → at ≡ a + i → 0 < w
+    → i + w ≤ length hex / 2 → v ≡ readLE (hexAt hex) i w → PutNext W hex a i ws ws' (i + w)
+put-stored {W} {ws} hex a i w at v s is some few value =
+    let width : i + w - i ≡ w = omega arith in
+    record {
+      more = omega arith;
+      few = few;
+      size = s .size;
+      bytes =
+          s .bytes ∙ ap (λ (b : ℕ). over b w (laid v b) (view W ws)) is
+          ∙ over-cong (a + i) w (laid v (a + i)) (λ x. hexAt hex (x - a)) (view W ws) (λ x low high. same x low high)
+          ∙ ap (λ (n : ℕ). over (a + i) n (λ x. hexAt hex (x - a)) (view W ws)) (sym width);
+    }
+  where
+    same : (x : ℕ) → a + i ≤ x → x < a + i + w → laid v (a + i) x ≡ hexAt hex (x - a)
+    same x low high =
+        let place' : i + (x - (a + i)) ≡ x - a = omega arith in
+        ap (λ (n : ℕ). byte n (x - (a + i))) value ∙ readLE-byte (hexAt hex) (hex-lt hex) i w (x - (a + i)) (omega arith)
+        ∙ ap (hexAt hex) place'
+
+-- The word of the bytes from `left` on of the W that begin at byte i, and one more from its high end.
+pub record WordFrom (hex : List ℕ) (i left word : ℕ) : Type 0 where
+  pub few : left ≤ W
+  pub is : word ≡ readLE (hexAt hex) (i + left) (W - left)
+
+pub word-none : (hex : List ℕ) (i : ℕ) → WordFrom hex i W 0
+unfolding readLE
+word-none hex i = record { few = omega arith; is = refl }
+
+module _ {hex : List ℕ} {i left word : ℕ} (w : WordFrom hex i left word) where
+  longer : (b : ℕ) → 0 < left → b ≡ hexAt hex (i + (left - 1)) → word * 256 + b ≡ readLE (hexAt hex) (i + (left - 1)) (W - (left - 1))
+  longer b some byte' =
+      let next : i + (left - 1) + 1 ≡ i + left = omega arith in
+      let width : 1 + (W - left) ≡ W - (left - 1) = omega (arith, w .few) in
+      sym (ap (λ (n : ℕ). readLE (hexAt hex) (i + (left - 1)) n) (sym width) ∙ readLE-append (hexAt hex) (i + (left - 1)) 1 (W - left)
+      ∙ rw (readLE-one (hexAt hex) (i + (left - 1)), next, ← w .is, ← byte'))
+
+  pub word-fits : (b : ℕ) → 0 < left → b ≡ hexAt hex (i + (left - 1)) → word * 256 + b < 256 ^ W
+  word-fits b some byte' =
+      let most : 256 ^ (W - (left - 1)) ≤ 256 ^ W = pow-le-pow-right (omega arith) {i = W - (left - 1)} {j = W} (omega arith) in
+      omega (arith, most, longer b some byte', readLE-lt (hexAt hex) (hex-lt hex) (i + (left - 1)) (W - (left - 1)))
+
+  pub word-more : (b : ℕ) → 0 < left → b ≡ hexAt hex (i + (left - 1)) → WordFrom hex i (left - 1) (word * 256 + b)
+  word-more b some byte' = record { few = omega (arith, w .few); is = longer b some byte' }
+
+  pub word-room : 0 < left → word * 256 < 256 ^ W
+  word-room some = omega (arith, word-fits (hexAt hex (i + (left - 1))) some refl)
+
+  pub word-all : left ≤ 0 → word ≡ readLE (hexAt hex) i W
+  word-all none =
+      let start : i + left ≡ i = omega arith in
+      let whole : W - left ≡ W = omega arith in
+      rw (start, whole) at (w .is)
 
 -- So many words that are zero.
 abbrev zeros : ℕ → List ℕ

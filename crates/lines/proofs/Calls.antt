@@ -1,9 +1,8 @@
 -- A call on the first k words: its promise, and the text of its answer, are those of the line.
 -- Assumes nothing.
-use mathlib.Core.Path.{_≡_, sym, _∙_, ap}
+use mathlib.Core.Path.{_≡_, _∙_, ap}
 use mathlib.Core.List.{List, _++_}
-use Prim.Native.Nat.{ℕ, _≤_}
-use lib.ListN.{length, take, drop, take-append-drop}
+use Prim.Native.Nat.{ℕ}
 use Rattle.model.specs.declared.Answer.{Answer}
 use Rattle.model.specs.Answers.{Reply, answered}
 use Rattle.model.specs.Promises.{Promised}

@@ -1,3 +1,4 @@
 pub mod BytesLaws
 pub mod Calls
 pub mod Reasons
+pub mod Rooms

@@ -1,14 +1,16 @@
--- How long a reason and an answer can be.
+-- How long a reason can be.
 -- Assumes nothing.
-use Prim.Native.Nat.{ℕ, _≤_}
+use Prim.Native.Nat.{_≤_}
 use native.Mathlib.Omega.{arith}
 use lib.ListN.{length}
 use Rattle.commands.specs.declared.Why.{Why}
 use Rattle.commands.specs.declared.Why.the-variants.{TooLong, UnknownWord, WrongFields, NoNumber, TooManyWords, OddDigits, OutsideMemory}
+use Rattle.texts.specs.Texts.{front, textAt}
 use Rattle.lines.specs.Lines.{whyText}
+use Rattle.lines.specs.Sizes.{mostWhy}
 
-pub why-few : (why : Why) → length (whyText why) ≤ 27
-unfolding whyText
+pub why-few : (why : Why) → length (whyText why) ≤ mostWhy
+unfolding whyText textAt front
 why-few TooLong = omega arith
 why-few UnknownWord = omega arith
 why-few WrongFields = omega arith

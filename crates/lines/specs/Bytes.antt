@@ -2,11 +2,11 @@
 -- Assumes nothing.
 use mathlib.Core.Path.{_≡_}
 use mathlib.Core.List.{List, [], _++_}
-use Prim.Native.Nat.{ℕ, zero, suc, _+_, _*_, _-_}
+use Prim.Native.Nat.{ℕ, zero, suc, _+_, _*_, _-_, _/_, _<_, _≤_}
 use lib.ListN.{length, getD}
 use Rattle.model.specs.Memory.{byte, view, over}
 use Rattle.show.specs.Numbers.{hexByte}
-use Rattle.commands.specs.Texts.{digitOf}
+use Rattle.texts.specs.Digits.{digitOf}
 
 -- The count bytes from address a, two digits each.
 unfoldable pub hexText : (ℕ → ℕ) → ℕ → ℕ → List ℕ
@@ -25,3 +25,10 @@ hexAt hex i = byte (hexNumber (getD hex (2 * i) 0) (getD hex (2 * i + 1) 0)) 0
 pub record Put (W : ℕ) (hex : List ℕ) (address n : ℕ) (ws ws' : List ℕ) : Type 0 where
   pub size : length ws' ≡ length ws
   pub bytes : view W ws' ≡ over address n (λ x. hexAt hex (x - address)) (view W ws)
+
+-- What comes next of the text, from byte i on up to byte r of it, is put.
+pub record PutNext (W : ℕ) (hex : List ℕ) (address i : ℕ) (ws ws' : List ℕ) (r : ℕ) : Type 0 where
+  pub more : i < r
+  pub few : r ≤ length hex / 2
+  pub size : length ws' ≡ length ws
+  pub bytes : view W ws' ≡ over (address + i) (r - i) (λ x. hexAt hex (x - address)) (view W ws)

@@ -8,7 +8,7 @@ use commands::Call;
 use commands::Command;
 use commands::Why;
 use commands::command_of;
-use commands::field_at;
+use commands::field_of;
 use mem8::bcmp;
 use mem8::memcmp;
 use mem8::memcpy;
@@ -18,22 +18,31 @@ use mem8::strlen;
 use show::write_answer;
 use show::write_decimal;
 use show::write_text;
+use texts::text_at;
 use words8::Word;
+ghost use mathlib.Core.Bool.{true};
 ghost use mathlib.Core.Path.{_≡_};
 ghost use Prim.Native.Nat.{_≤_, _*_, _+_, _/_};
-ghost use lib.ListN.{length, take};
+ghost use lib.ListN.{length, take, replicate};
 ghost use Rattle.model.specs.Answers.{fillAnswer, fillWords, stringAnswer};
 ghost use Rattle.model.specs.Fit.{Range};
 ghost use Rattle.model.specs.Memory.{view};
 ghost use Rattle.show.specs.AnswerText.{answerText};
+ghost use Rattle.show.specs.Sizes.{mostAnswer};
 ghost use Rattle.show.specs.Written.{Room, Wrote};
+ghost use Rattle.texts.specs.Digits.{allDigits};
 ghost use Rattle.commands.specs.Commands.{commandOf};
+ghost use Rattle.commands.specs.Fine.{Fine};
 ghost use Rattle.words8.specs.Word.{W};
 ghost use Rattle.lines.specs.Bytes.{Put};
-ghost use Rattle.lines.specs.Lines.{onFirst, rangesAnswer, rangesWords, putText, getText, clearText, whyText, errorText, Answered};
+ghost use Rattle.lines.specs.Lines.{onFirst, rangesAnswer, rangesWords, putText, getText, clearText, reasonNumber, whyText, errorText, Answered};
+ghost use Rattle.lines.specs.Sizes.{memoryWords, mostPut, mostWhy, mostError, longestAnswer};
 
-// The most bytes of an answer: `bytes`, a space, two digits for each of 65,536 bytes, and the newline.
-pub const MOST_ANSWER: usize = 131079;
+// The words of the memory.
+pub const MEMORY_WORDS: usize = 8192;
+
+// The most bytes of an answer: `bytes`, a space, two digits for each byte of the memory, and the newline.
+pub const LONGEST_ANSWER: usize = 131079;
 
 fn answer_ranges(
     mem: &mut [Word],
@@ -45,7 +54,7 @@ fn answer_ranges(
     out: &mut [u8],
     at: usize,
 ) -> usize
-    requires { ⌜ (k ≤ length (now mem)) × (Room 210 at (now out)) ⌝ }
+    requires { ⌜ (k ≤ length (now mem)) × (Room mostAnswer at (now out)) ⌝ }
     ensures { λ r. ⌜ (now (mem .exit) ≡ rangesWords call (now (mem .entry)) k first second n)
         × (Wrote (answerText (rangesAnswer call (now (mem .entry)) k first second n)) at (now (out .entry)) (now (out .exit)) r) ⌝ }
 {
@@ -67,7 +76,7 @@ fn answer_fill(
     out: &mut [u8],
     at: usize,
 ) -> usize
-    requires { ⌜ (k ≤ length (now mem)) × (Room 210 at (now out)) ⌝ }
+    requires { ⌜ (k ≤ length (now mem)) × (Room mostAnswer at (now out)) ⌝ }
     ensures { λ r. ⌜ (now (mem .exit) ≡ onFirst k (λ lent. fillWords W lent dest c n) (now (mem .entry)))
         × (Wrote (answerText (fillAnswer W k dest n)) at (now (out .entry)) (now (out .exit)) r) ⌝ }
 {
@@ -75,14 +84,14 @@ fn answer_fill(
 }
 
 fn answer_strlen(mem: &[Word], k: usize, start: usize, out: &mut [u8], at: usize) -> usize
-    requires { ⌜ (k ≤ length (now mem)) × (Room 210 at (now out)) ⌝ }
+    requires { ⌜ (k ≤ length (now mem)) × (Room mostAnswer at (now out)) ⌝ }
     ensures { λ r. ⌜ Wrote (answerText (stringAnswer W (take k (now (mem .entry))) start)) at (now (out .entry)) (now (out .exit)) r ⌝ }
 {
     write_answer(out, at, strlen(&mem[..k], start))
 }
 
 fn answer_put(mem: &mut [Word], address: usize, hex: &[u8], out: &mut [u8], at: usize) -> usize
-    requires { ⌜ (Range W (length (now mem)) address (length (now hex) / 2)) × (Room 25 at (now out)) ⌝ }
+    requires { ⌜ (Range W (length (now mem)) address (length (now hex) / 2)) × (allDigits (now hex) ≡ true) × (Room mostPut at (now out)) ⌝ }
     ensures { λ r. ⌜ (Put W (now (hex .entry)) address (length (now (hex .entry)) / 2) (now (mem .entry)) (now (mem .exit)))
         × (Wrote (putText (length (now (hex .entry)) / 2)) at (now (out .entry)) (now (out .exit)) r) ⌝ }
 {
@@ -105,23 +114,31 @@ fn answer_get(mem: &[Word], address: usize, count: usize, out: &mut [u8], at: us
     write_text(out, bytes, b"\n")
 }
 
-fn write_why(out: &mut [u8], at: usize, why: Why) -> usize
-    requires { ⌜ Room 27 at (now out) ⌝ }
-    ensures { λ r. ⌜ Wrote (whyText why) at (now (out .entry)) (now (out .exit)) r ⌝ }
+fn reason_number(why: Why) -> usize
+    ensures { λ r. ⌜ r ≡ reasonNumber why ⌝ }
 {
     match why {
-        Why::TooLong => write_text(out, at, b"a line above 16,383 bytes"),
-        Why::UnknownWord => write_text(out, at, b"unknown word"),
-        Why::WrongFields => write_text(out, at, b"wrong number of fields"),
-        Why::NoNumber => write_text(out, at, b"no number or one too large"),
-        Why::TooManyWords => write_text(out, at, b"k above 8192"),
-        Why::OddDigits => write_text(out, at, b"an odd number of hex digits"),
-        Why::OutsideMemory => write_text(out, at, b"a byte outside the memory"),
+        Why::TooLong => 0,
+        Why::UnknownWord => 1,
+        Why::WrongFields => 2,
+        Why::NoNumber => 3,
+        Why::TooManyWords => 4,
+        Why::OddDigits => 5,
+        Why::OutsideMemory => 6,
     }
 }
 
+fn write_why(out: &mut [u8], at: usize, why: Why) -> usize
+    requires { ⌜ Room mostWhy at (now out) ⌝ }
+    ensures { λ r. ⌜ Wrote (whyText why) at (now (out .entry)) (now (out .exit)) r ⌝ }
+{
+    let reasons =
+        b"a line above 16,383 bytes;unknown word;wrong number of fields;no number or one too large;k above 8192;an odd number of hex digits;a byte outside the memory;";
+    write_text(out, at, text_at(reasons, reason_number(why)))
+}
+
 fn answer_bad(number: u64, why: Why, out: &mut [u8], at: usize) -> usize
-    requires { ⌜ Room 55 at (now out) ⌝ }
+    requires { ⌜ Room mostError at (now out) ⌝ }
     ensures { λ r. ⌜ Wrote (errorText number why) at (now (out .entry)) (now (out .exit)) r ⌝ }
 {
     let word = write_text(out, at, b"error ");
@@ -131,12 +148,28 @@ fn answer_bad(number: u64, why: Why, out: &mut [u8], at: usize) -> usize
     write_text(out, reason, b"\n")
 }
 
-// Answers line `number`: what it says is done to the memory, and the answer is written to `out` from `at` on.
-pub fn answer_line(mem: &mut [Word], line: &[u8], number: u64, out: &mut [u8], at: usize) -> usize
-    requires { ⌜ (length (now mem) ≡ 8192) × (Room 131079 at (now out)) ⌝ }
-    ensures { λ r. ⌜ Answered (now (mem .entry)) number (now (line .entry)) (commandOf (now (line .entry))) (now (mem .exit)) at (now (out .entry)) (now (out .exit)) r ⌝ }
+fn answer_clear(mem: &mut [Word], out: &mut [u8], at: usize) -> usize
+    requires { ⌜ Room (length clearText) at (now out) ⌝ }
+    ensures { λ r. ⌜ (now (mem .exit) ≡ replicate (length (now (mem .entry))) 0)
+        × (Wrote clearText at (now (out .entry)) (now (out .exit)) r) ⌝ }
 {
-    match command_of(line) {
+    clear(mem);
+    write_text(out, at, b"clear\n")
+}
+
+// Answers a command: what it says is done to the memory, and the answer is written to `out` from `at` on.
+fn answer_command(
+    mem: &mut [Word],
+    line: &[u8],
+    number: u64,
+    command: Command,
+    out: &mut [u8],
+    at: usize,
+) -> usize
+    requires { ⌜ (length (now mem) ≡ memoryWords) × (Room longestAnswer at (now out)) × (Fine memoryWords (now line) command) ⌝ }
+    ensures { λ r. ⌜ Answered (now (mem .entry)) number (now (line .entry)) command (now (mem .exit)) at (now (out .entry)) (now (out .exit)) r ⌝ }
+{
+    match command {
         Command::Nothing => at,
         Command::Ranges(call, k, first, second, n) => answer_ranges(
             mem,
@@ -150,12 +183,23 @@ pub fn answer_line(mem: &mut [Word], line: &[u8], number: u64, out: &mut [u8], a
         ),
         Command::Fill(k, dest, c, n) => answer_fill(mem, k, dest, c, n, out, at),
         Command::Strlen(k, start) => answer_strlen(mem, k, start, out, at),
-        Command::Put(address) => answer_put(mem, address, field_at(line, 2), out, at),
+        Command::Put(address, count) => answer_put(
+            mem,
+            address,
+            field_of(line, 2, 2 * count),
+            out,
+            at,
+        ),
         Command::Get(address, count) => answer_get(mem, address, count, out, at),
-        Command::Clear => {
-            clear(mem);
-            write_text(out, at, b"clear\n")
-        }
+        Command::Clear => answer_clear(mem, out, at),
         Command::Bad(why) => answer_bad(number, why, out, at),
     }
+}
+
+// Answers line `number`.
+pub fn answer_line(mem: &mut [Word], line: &[u8], number: u64, out: &mut [u8], at: usize) -> usize
+    requires { ⌜ (length (now mem) ≡ memoryWords) × (Room longestAnswer at (now out)) ⌝ }
+    ensures { λ r. ⌜ Answered (now (mem .entry)) number (now (line .entry)) (commandOf memoryWords (now (line .entry))) (now (mem .exit)) at (now (out .entry)) (now (out .exit)) r ⌝ }
+{
+    answer_command(mem, line, number, command_of(line, MEMORY_WORDS), out, at)
 }

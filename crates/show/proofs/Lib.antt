@@ -1,3 +1,4 @@
 pub mod Writing
 pub mod TextLengths
 pub mod NumberLaws
+pub mod CountLaws

@@ -1,4 +1,4 @@
--- A number's text by its digits, as `io::decimal` gives them (`digits-decimal`), and by its sign.
+-- A number's text by its digits, as `io::decimal` gives them (`digits-decimal`).
 -- Assumes nothing.
 use mathlib.Core.Path.{_≡_, refl, ap}
 use mathlib.Core.Bool.{Bool, true, false, cond}
@@ -7,11 +7,10 @@ use Prim.Native.Nat.{ℕ, zero, suc, _-_, _/_, _%_, _^_, _≤_, _<_}
 use native.Mathlib.Nat.{pow-suc, one-le-pow, pow-le-pow-right, mod-eq-of-lt, lt-of-not-le}
 use native.Mathlib.Omega.{arith}
 use lib.Dec.{ltb}
-use lib.IntN.{ℤ, pos, negsuc, natAbs}
-use lib.Signed.{ltZ}
 use borrow.Author.Tests.{ltb-true, ltb-false}
 use Rattle.io.specs.Digits.{glyph, digits, Fewest}
-use Rattle.show.specs.Numbers.{decimalIn, decimal, signed}
+use Rattle.show.specs.Numbers.{decimalIn, decimal}
+use Rattle.show.specs.Sizes.{mostNumber}
 
 tens : (k : ℕ) → 10 ^ (suc k - 1) ≡ 10 ^ k
 tens k = ap (λ (e : ℕ). 10 ^ e) (omega arith)
@@ -38,8 +37,8 @@ fewest-decimal f zero n h l = absurd (omega arith)
 fewest-decimal zero (suc k) n h l = absurd (omega arith)
 fewest-decimal (suc f) (suc k) n h l = last-digit f k n h (λ t. fewest-decimal f k (n / 10) t (omega arith)) (ltb n 10) refl
 
--- A number of 64 bits has no more than 20 digits.
-pub fewest-few : (n k : ℕ) → Fewest 10 1 n k → n < 2 ^ 64 → k ≤ 20
+-- A number of 64 bits.
+pub fewest-few : (n k : ℕ) → Fewest 10 1 n k → n < 2 ^ 64 → k ≤ mostNumber
 fewest-few n k h b =
     let few : k < 21 = lt-of-not-le (λ l. omega (arith, h .2 (omega arith), twenty l)) in
     omega arith
@@ -48,12 +47,4 @@ fewest-few n k h b =
     twenty l = pow-le-pow-right {n = 10} (omega arith) {i = 20} {j = k - 1} (omega arith)
 
 pub digits-decimal : (n k : ℕ) → Fewest 10 1 n k → n < 2 ^ 64 → digits 10 k n ≡ decimal n
-digits-decimal n k h b = fewest-decimal 20 k n h (fewest-few n k h b)
-
-pub signed-below : (z : ℤ) → ltZ z (pos 0) ≡ true → 45 ∷ decimal (natAbs z) ≡ signed z
-signed-below (pos n) e = absurd (omega (arith, ltb-true n 0 e))
-signed-below (negsuc n) e = refl
-
-pub signed-other : (z : ℤ) → ltZ z (pos 0) ≡ false → decimal (natAbs z) ≡ signed z
-signed-other (pos n) e = refl
-signed-other (negsuc n) e = let z : _≡_ {A = ℕ} 0 1 = cc in absurd (omega arith)
+digits-decimal n k h b = fewest-decimal mostNumber k n h (fewest-few n k h b)

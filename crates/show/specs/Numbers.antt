@@ -6,20 +6,22 @@ use Prim.Native.Nat.{ℕ, zero, suc, _/_, _%_}
 use lib.Dec.{ltb}
 use lib.IntN.{ℤ, pos, negsuc}
 use Rattle.io.specs.Digits.{glyph}
+use Rattle.texts.specs.Codes.{codes}
+use Rattle.show.specs.Sizes.{mostNumber}
 
 -- A number of at most k decimal digits, with no 0 in front.
 unfoldable pub decimalIn : ℕ → ℕ → List ℕ
 decimalIn zero n = []
 decimalIn (suc k) n = cond (ltb n 10) (glyph n ∷ []) (decimalIn k (n / 10) ++ (glyph (n % 10) ∷ []))
 
--- A number of 64 bits has at most 20.
+-- A number of 64 bits.
 abbrev pub decimal : ℕ → List ℕ
-decimal n = decimalIn 20 n
+decimal n = decimalIn mostNumber n
 
 -- `-` before a number below 0. (`negsuc n` is -1 - n.)
 abbrev pub signed : ℤ → List ℕ
 signed (pos n) = decimal n
-signed (negsuc n) = 45 ∷ decimal (suc n)
+signed (negsuc n) = codes "-" ++ decimal (suc n)
 
 -- A byte as two hexadecimal digits, in lower case.
 abbrev pub hexByte : ℕ → List ℕ

@@ -2,83 +2,116 @@
 // wrote.
 mod write;
 
-use crate::write::write_signed;
+use crate::write::write_worded;
 use libc::STDOUT_FILENO;
 use model::Answer;
 use model::Outcome;
+use texts::text_at;
 pub use write::write_byte;
 pub use write::write_decimal;
 pub use write::write_text;
-ghost use Prim.Native.Nat.{_≤_};
-ghost use Rattle.model.specs.Answers.{answered, saidOf};
+ghost use mathlib.Core.List.{_++_};
+ghost use Prim.Native.Nat.{_+_, _≤_};
+ghost use lib.ListN.{length};
+ghost use Rattle.model.specs.Answers.{answered, saidOf, a-number};
 ghost use Rattle.show.specs.Written.{Room, Wrote};
-ghost use Rattle.show.specs.AnswerText.{slashed, fourCounts, saidText, answerText};
+ghost use Rattle.show.specs.AnswerText.{fourCounts, saidText, answerText, Parted};
+ghost use Rattle.show.specs.Sizes.{mostOutcome, mostCounts, mostAnswer};
 
-// One more count, after those before it.
-fn write_next_count(out: &mut [u8], at: usize, count: u64) -> usize
-    requires { ⌜ Room 21 at (now out) ⌝ }
-    ensures { λ r. ⌜ Wrote (slashed count) at (now (out .entry)) (now (out .exit)) r ⌝ }
-{
-    let past = write_text(out, at, b"/");
-    write_decimal(out, past, count)
+// The longest answer, with its newline.
+const MOST_ANSWER: usize = 210;
+
+// An outcome in two parts: which word says it, and the number behind that.
+struct Parts {
+    word: usize,
+    number: u64,
 }
 
-// The counts of 1, 2, 4 and 8 bytes, which stand from place `first` on: 0 for the loads, 4 for the stores.
-fn write_counts(out: &mut [u8], at: usize, numbers: [u64; 8], first: usize) -> usize
-    requires { ⌜ (Room 83 at (now out)) × (first ≤ 4) ⌝ }
-    ensures { λ r. ⌜ Wrote (fourCounts numbers first) at (now (out .entry)) (now (out .exit)) r ⌝ }
+fn parts_of_number(number: i32) -> Parts
+    ensures { λ r. ⌜ Parted (a-number number) (r .word) (r .number) ⌝ }
 {
-    let one = write_decimal(out, at, numbers[first]);
-    let two = write_next_count(out, one, numbers[first + 1]);
-    let four = write_next_count(out, two, numbers[first + 2]);
-    write_next_count(out, four, numbers[first + 3])
-}
-
-fn write_outcome(out: &mut [u8], at: usize, outcome: Outcome) -> usize
-    requires { ⌜ Room 28 at (now out) ⌝ }
-    ensures { λ r. ⌜ Wrote (saidText (saidOf outcome)) at (now (out .entry)) (now (out .exit)) r ⌝ }
-{
-    match outcome {
-        Outcome::Address(address) => {
-            let past = write_text(out, at, b"address ");
-            write_decimal(out, past, address as u64)
+    // In 64 bits, since the least i32 has no opposite in 32.
+    let wide = number as i64;
+    if wide < 0 {
+        Parts {
+            word: 4,
+            number: (-wide) as u64,
         }
-        Outcome::Number(number) => {
-            let past = write_text(out, at, b"number ");
-            write_signed(out, past, number)
-        }
-        Outcome::Length(length) => {
-            let past = write_text(out, at, b"length ");
-            write_decimal(out, past, length as u64)
-        }
-        Outcome::Refused(why) => {
-            let past = write_text(out, at, b"refusal ");
-            write_decimal(out, past, why.number())
+    } else {
+        Parts {
+            word: 1,
+            number: wide as u64,
         }
     }
 }
 
+fn parts_of(outcome: Outcome) -> Parts
+    ensures { λ r. ⌜ Parted (saidOf outcome) (r .word) (r .number) ⌝ }
+{
+    match outcome {
+        Outcome::Address(address) => Parts {
+            word: 0,
+            number: address as u64,
+        },
+        Outcome::Number(number) => parts_of_number(number),
+        Outcome::Length(length) => Parts {
+            word: 2,
+            number: length as u64,
+        },
+        Outcome::Refused(why) => Parts {
+            word: 3,
+            number: why.number(),
+        },
+    }
+}
+
+fn write_outcome(out: &mut [u8], at: usize, outcome: Outcome) -> usize
+    requires { ⌜ Room mostOutcome at (now out) ⌝ }
+    ensures { λ r. ⌜ Wrote (saidText (saidOf outcome)) at (now (out .entry)) (now (out .exit)) r ⌝ }
+{
+    let parts = parts_of(outcome);
+    write_worded(
+        out,
+        at,
+        text_at(b"address ;number ;length ;refusal ;number -;", parts.word),
+        parts.number,
+    )
+}
+
+// A word, and the counts of 1, 2, 4 and 8 bytes, which stand from place `first` on: 0 for the loads, 4 for the stores.
+fn write_counts(out: &mut [u8], at: usize, word: &[u8], numbers: [u64; 8], first: usize) -> usize
+    requires { ⌜ (Room (length (now word) + mostCounts) at (now out)) × (first ≤ 4) ⌝ }
+    ensures { λ r. ⌜ Wrote (now (word .entry) ++ fourCounts numbers first) at (now (out .entry)) (now (out .exit)) r ⌝ }
+{
+    let mut past = write_worded(out, at, word, numbers[first]);
+    let mut i = 0;
+    while i < 3 {
+        past = write_worded(out, past, b"/", numbers[first + 1 + i]);
+        i += 1;
+    }
+    past
+}
+
 // The outcome, what was counted, and the end of the line.
 pub fn write_answer(out: &mut [u8], at: usize, answer: Answer) -> usize
-    requires { ⌜ Room 210 at (now out) ⌝ }
+    requires { ⌜ Room mostAnswer at (now out) ⌝ }
     ensures { λ r. ⌜ Wrote (answerText (answered answer)) at (now (out .entry)) (now (out .exit)) r ⌝ }
 {
     let outcome = answer.outcome;
     let counts = answer.counts;
     let numbers = counts.numbers;
     let said = write_outcome(out, at, outcome);
-    let loads = write_text(out, said, b" loads ");
-    let loaded = write_counts(out, loads, numbers, 0);
-    let stores = write_text(out, loaded, b" stores ");
-    let stored = write_counts(out, stores, numbers, 4);
-    write_text(out, stored, b"\n")
+    let loaded = write_counts(out, said, b" loads ", numbers, 0);
+    let stored = write_counts(out, loaded, b" stores ", numbers, 4);
+    out[stored] = b'\n';
+    stored + 1
 }
 
 // The name of a call, and its answer: a line for each call.
 pub fn print_answer(name: &[u8], answer: Answer) {
-    let mut line = [0u8; 210];
-    let end = write_answer(&mut line, 0, answer);
+    // The space behind the name is the first byte, which stays as it is.
+    let mut line = [b' '; 1 + MOST_ANSWER];
+    let end = write_answer(&mut line, 1, answer);
     io::write_all(STDOUT_FILENO, name);
-    io::write_all(STDOUT_FILENO, b" ");
     io::write_all(STDOUT_FILENO, &line[..end]);
 }

@@ -1,11 +1,12 @@
 // Texts and numbers, written into a buffer that is lent.
 ghost use mathlib.Core.Path.{_≡_};
-ghost use Prim.Native.Nat.{_<_};
-ghost use lib.IntN.{natAbs};
+ghost use mathlib.Core.List.{_++_};
+ghost use Prim.Native.Nat.{_+_, _<_};
 ghost use lib.ListN.{length};
 ghost use Rattle.io.specs.Digits.{glyph};
 ghost use Rattle.show.specs.Written.{Room, Wrote};
-ghost use Rattle.show.specs.Numbers.{decimal, signed, hexByte};
+ghost use Rattle.show.specs.Numbers.{decimal, hexByte};
+ghost use Rattle.show.specs.Sizes.{mostNumber};
 
 // The text as it stands.
 pub fn write_text(out: &mut [u8], at: usize, text: &[u8]) -> usize
@@ -21,7 +22,7 @@ pub fn write_text(out: &mut [u8], at: usize, text: &[u8]) -> usize
 }
 
 pub fn write_decimal(out: &mut [u8], at: usize, n: u64) -> usize
-    requires { ⌜ Room 20 at (now out) ⌝ }
+    requires { ⌜ Room mostNumber at (now out) ⌝ }
     ensures { λ r. ⌜ Wrote (decimal n) at (now (out .entry)) (now (out .exit)) r ⌝ }
 {
     let mut digits = [0u8; 20];
@@ -29,29 +30,13 @@ pub fn write_decimal(out: &mut [u8], at: usize, n: u64) -> usize
     write_text(out, at, &digits[..k])
 }
 
-// How far a number is from 0.
-fn magnitude(number: i32) -> u64
-    ensures { λ r. ⌜ r ≡ natAbs number ⌝ }
+// A word, and a number behind it.
+pub fn write_worded(out: &mut [u8], at: usize, word: &[u8], number: u64) -> usize
+    requires { ⌜ Room (length (now word) + mostNumber) at (now out) ⌝ }
+    ensures { λ r. ⌜ Wrote (now (word .entry) ++ decimal number) at (now (out .entry)) (now (out .exit)) r ⌝ }
 {
-    // In 64 bits, since the least i32 has no opposite in 32.
-    let wide = number as i64;
-    if wide < 0 {
-        (-wide) as u64
-    } else {
-        wide as u64
-    }
-}
-
-pub fn write_signed(out: &mut [u8], at: usize, number: i32) -> usize
-    requires { ⌜ Room 21 at (now out) ⌝ }
-    ensures { λ r. ⌜ Wrote (signed number) at (now (out .entry)) (now (out .exit)) r ⌝ }
-{
-    if number < 0 {
-        let past = write_text(out, at, b"-");
-        write_decimal(out, past, magnitude(number))
-    } else {
-        write_decimal(out, at, magnitude(number))
-    }
+    let past = write_text(out, at, word);
+    write_decimal(out, past, number)
 }
 
 fn hex_digit(digit: u8) -> u8

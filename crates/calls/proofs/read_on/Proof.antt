@@ -1,16 +1,10 @@
 -- `calls::read_on` keeps what is unread in front of what it reads. Assumes nothing.
-use Rattle.calls.proofs.StreamLaws.{front-stays}
-use mathlib.Core.Path.{_≡_, refl, sym, _∙_}
+use mathlib.Core.Path.{refl}
 use native.Mathlib.Omega.{arith}
+use Rattle.calls.proofs.StreamLaws.{joined}
 use borrow.Author.Needs.{needs}
 use Rattle.calls.proofs.read_on.Statement.{statement}
 use Rattle.calls.proofs.read_on.Tie as tie
-use Rattle.calls.proofs.read_on.Reads as reads
-use Rattle.calls.proofs.read_on.Lts as lts
-use Rattle.calls.proofs.print.Reads as print-reads
-use Rattle.calls.proofs.to_front.Reads as to-front-reads
-use Rattle.io.proofs.count.Reads as count-reads
-use Rattle.libc.proofs.read.Reads as read-reads
 
 print-requires : tie.Need-print-requires
 print-requires c κs = search needs
@@ -18,17 +12,17 @@ print-requires c κs = search needs
 to-front-requires : tie.Need-to-front-requires
 to-front-requires c κs = search needs
 
-sub-read : tie.Need-sub-read
-sub-read c = search needs
+sub-read-more : tie.Need-sub-read-more
+sub-read-more c = search needs
 
-part-read-start : tie.Need-part-read-start
-part-read-start c = search needs
+part-read-more-start : tie.Need-part-read-more-start
+part-read-more-start c = search needs
 
-part-read-end : tie.Need-part-read-end
-part-read-end c = search needs
+part-read-more-end : tie.Need-part-read-more-end
+part-read-more-end c = search needs
 
-read-requires : tie.Need-read-requires
-read-requires c κs = search needs
+read-more-requires : tie.Need-read-more-requires
+read-more-requires c κs = search needs
 
 sub-count : tie.Need-sub-count
 sub-count c = search needs
@@ -50,24 +44,12 @@ same-length c = search needs
 
 returns : tie.Need-returns
 returns c =
-    let front = c .before .before .before .before .before .before .before .before .before .to-front .ensures in (
+    let front = c .before .before .before .before .before .before .before .before .before .to-front .ensures in
+    let sound = c .before .before .before .before .before .before .before .before .before .before .before .before .before .before .pre .2 in (
       record { unread = omega arith; input = search needs; output = omega arith },
       refl,
       refl,
-      record {
-        start = refl;
-        end = omega (
-          arith,
-          front .0,
-        );
-        bytes = front-stays _ _ (c .before .before .before .before .before .before .before .before .before .to-front .last .0) _ (sym
-            (front .0)) (omega (
-              arith,
-              front .0,
-              c .before .before .before .before .before .before .before .before .before .before .before .before .before .before .pre .2 .unread,
-              c .before .before .before .before .before .before .before .before .before .before .before .before .before .before .pre .2 .input,
-            )) ∙ front .1;
-      },
+      joined _ _ _ _ _ _ _ _ (front .0) (omega arith) (omega arith) (front .1) refl refl refl,
     )
 
 pub read-on-spec : {M : Type 1} → statement M
@@ -76,10 +58,10 @@ read-on-spec =
     (tie.spec
     print-requires
     to-front-requires
-    sub-read
-    part-read-start
-    part-read-end
-    read-requires
+    sub-read-more
+    part-read-more-start
+    part-read-more-end
+    read-more-requires
     sub-count
     part-count-start
     part-count-end

@@ -3,14 +3,14 @@
 -- Assumes nothing.
 use Prim.Native.Nat.{_+_, _-_, _<_, _^_}
 use borrow.Author.Needs.{needs}
-use lib.ListN.{length}
-use Rattle.calls.specs.Streams.{Sound, Lent}
+use Rattle.calls.specs.Streams.{Lent}
+use Rattle.calls.proofs.StreamLaws.{zeros-size}
 use Rattle.calls.proofs.run.Statement.{statement}
 use Rattle.calls.proofs.run.Tie as tie
 
 abbrev Inv-loop : tie.InvT-loop
 Inv-loop mem₀ input₀ output₀ stream₀ turns₀ mem input output stream turns =
-    Lent (length mem) (length input) (length output) × Sound stream × (stream .number + turns < 2 ^ 64 - 1)
+    Lent mem input output stream × (stream .number + turns < 2 ^ 64 - 1)
 
 abbrev μ-loop : tie.MeasureT-loop
 μ-loop mem₀ input₀ output₀ stream₀ turns₀ mem input output stream turns = turns
@@ -19,10 +19,10 @@ sub-turns : tie.Need-sub-turns Inv-loop μ-loop
 sub-turns c = search needs
 
 loop-holds : tie.Need-loop-holds Inv-loop μ-loop
-loop-holds c = search needs
+loop-holds c = let size = zeros-size (c .before .before .before .pre .0) in search needs
 
 turn-requires : tie.Need-turn-requires Inv-loop μ-loop
-turn-requires c κs = search needs
+turn-requires c κs = c .before .before .before .before .before .before .before .loop .inv .0
 
 sub-turns-2 : tie.Need-sub-turns-2 Inv-loop μ-loop
 sub-turns-2 c = search needs
@@ -33,11 +33,15 @@ loop-less c = search needs
 loop-again : tie.Need-loop-again Inv-loop μ-loop
 loop-again c = search needs
 
+last-line-requires : tie.Need-last-line-requires Inv-loop μ-loop
+last-line-requires c κs = c .before .before .before .before .loop .inv .0
+
 finish-requires : tie.Need-finish-requires Inv-loop μ-loop
 finish-requires c κs = search needs
 
 same-length : tie.Need-same-length Inv-loop μ-loop
-same-length c = search needs
+same-length c =
+    let size = zeros-size (c .before .before .before .before .before .before .before .before .before .before .before .before .before .before .before .pre .0) in search needs
 
 same-length-2 : tie.Need-same-length-2 Inv-loop μ-loop
 same-length-2 c = search needs
@@ -60,6 +64,7 @@ run-spec =
     sub-turns-2
     loop-less
     loop-again
+    last-line-requires
     finish-requires
     same-length
     same-length-2

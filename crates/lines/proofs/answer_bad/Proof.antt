@@ -1,18 +1,14 @@
 -- `lines::answer_bad` writes `error`, the line's number and the reason. Assumes nothing.
-use mathlib.Core.Path.{_≡_, refl, sym, _∙_, ap}
-use native.Mathlib.Omega.{arith}
-use Rattle.show.proofs.Writing.{wrote-size, wrote-then, wrote-within}
+use mathlib.Core.Path.{_∙_}
+use Rattle.show.proofs.Writing.{wrote-size, wrote-then}
 use Rattle.show.proofs.TextLengths.{decimal-few}
 use Rattle.lines.specs.Lines.{errorText}
 use Rattle.lines.proofs.Reasons.{why-few}
+use Rattle.lines.proofs.Rooms.{room-after}
 use borrow.Author.Needs.{needs}
+use native.Mathlib.Omega.{arith}
 use Rattle.lines.proofs.answer_bad.Statement.{statement}
 use Rattle.lines.proofs.answer_bad.Tie as tie
-use Rattle.lines.proofs.answer_bad.Reads as reads
-use Rattle.lines.proofs.answer_bad.Lts as lts
-use Rattle.lines.proofs.write_why.Reads as write-why-reads
-use Rattle.show.proofs.write_decimal.Reads as write-decimal-reads
-use Rattle.show.proofs.write_text.Reads as write-text-reads
 
 slice-aggregate-write-text : tie.Need-slice-aggregate-write-text
 slice-aggregate-write-text c = search needs
@@ -21,88 +17,29 @@ write-text-requires : tie.Need-write-text-requires
 write-text-requires c κs = search needs
 
 write-decimal-requires : tie.Need-write-decimal-requires
-write-decimal-requires c κs =
-    omega (
-      arith,
-      c .before .before .before .write-text .ensures .ends,
-      wrote-size (c .before .before .before .write-text .ensures),
-      c .before .before .before .before .before .before .before .pre,
-    )
+write-decimal-requires c κs = omega (arith, room-after 6 49 (c .before .before .before .write-text .ensures) (omega arith) (c .before .before .before .before .before .before .before .pre))
 
 slice-aggregate-write-text-2 : tie.Need-slice-aggregate-write-text-2
 slice-aggregate-write-text-2 c = search needs
 
 write-text-requires-2 : tie.Need-write-text-requires-2
-write-text-requires-2 c κs =
-    let few = wrote-within (decimal-few _) (c .before .before .before .before .write-decimal .ensures) in
-    omega (
-      arith,
-      few,
-      wrote-size (c .before .before .before .before .write-decimal .ensures),
-      wrote-size (c .before .before .before .before .before .before .before .before .write-text .ensures),
-      c .before .before .before .before .before .before .before .before .write-text .ensures .ends,
-      c .before .before .before .before .before .before .before .before .before .before .before .before .pre,
-    )
+write-text-requires-2 c κs = omega (arith, room-after 20 29 (c .before .before .before .before .write-decimal .ensures) (decimal-few _) (room-after 6 49 (c .before .before .before .before .before .before .before .before .write-text .ensures) (omega arith) (c .before .before .before .before .before .before .before .before .before .before .before .before .pre)))
 
 write-why-requires : tie.Need-write-why-requires
-write-why-requires c κs =
-    let few = wrote-within (decimal-few _) (c .before .before .before .before .before .before .before .before .write-decimal .ensures) in
-    let size = wrote-size (c .before .before .before .before .before .before .before .before .write-decimal .ensures) in
-    omega (
-      arith,
-      few,
-      size,
-      wrote-size (c .before .before .before .write-text2 .ensures),
-      wrote-size (c .before .before .before .before .before .before .before .before .before .before .before .before .write-text .ensures),
-      c .before .before .before .write-text2 .ensures .ends,
-      c .before .before .before .before .before .before .before .before .before .before .before .before .write-text .ensures .ends,
-      c .before .before .before .before .before .before .before .before .before .before .before .before .before .before .before .before .pre,
-    )
+write-why-requires c κs = omega (arith, room-after 1 28 (c .before .before .before .write-text2 .ensures) (omega arith) (room-after 20 29 (c .before .before .before .before .before .before .before .before .write-decimal .ensures) (decimal-few _) (room-after 6 49 (c .before .before .before .before .before .before .before .before .before .before .before .before .write-text .ensures) (omega arith) (c .before .before .before .before .before .before .before .before .before .before .before .before .before .before .before .before .pre))))
 
 slice-aggregate-write-text-3 : tie.Need-slice-aggregate-write-text-3
 slice-aggregate-write-text-3 c = search needs
 
 write-text-requires-3 : tie.Need-write-text-requires-3
-write-text-requires-3 c κs =
-    let few = wrote-within (decimal-few _)
-    (c .before .before .before .before .before .before .before .before .before .before .before .before .before .write-decimal .ensures) in
-    let reason = wrote-within (why-few _) (c .before .before .before .before .write-why .ensures) in
-    let size = wrote-size
-    (c .before .before .before .before .before .before .before .before .before .before .before .before .before .write-decimal .ensures) in
-    omega (
-      arith,
-      few,
-      reason,
-      size,
-      wrote-size (c .before .before .before .before .write-why .ensures),
-      wrote-size (c .before .before .before .before .before .before .before .before .write-text2 .ensures),
-      wrote-size
-          (c .before .before .before .before .before .before .before .before .before .before .before .before .before .before .before .before .before .write-text .ensures),
-      c .before .before .before .before .before .before .before .before .write-text2 .ensures .ends,
-      c .before .before .before .before .before .before .before .before .before .before .before .before .before .before .before .before .before .write-text .ensures .ends,
-      c .before .before .before .before .before .before .before .before .before .before .before .before .before .before .before .before .before .before .before .before .before .pre,
-    )
+write-text-requires-3 c κs = room-after 27 1 (c .before .before .before .before .write-why .ensures) (why-few _) (room-after 1 28 (c .before .before .before .before .before .before .before .before .write-text2 .ensures) (omega arith) (room-after 20 29 (c .before .before .before .before .before .before .before .before .before .before .before .before .before .write-decimal .ensures) (decimal-few _) (room-after 6 49 (c .before .before .before .before .before .before .before .before .before .before .before .before .before .before .before .before .before .write-text .ensures) (omega arith) (c .before .before .before .before .before .before .before .before .before .before .before .before .before .before .before .before .before .before .before .before .before .pre))))
 
 same-length : tie.Need-same-length
-same-length c =
-    wrote-size (c .before .before .write-text3 .ensures)
-    ∙ wrote-size (c .before .before .before .before .before .before .before .write-why .ensures)
-    ∙ wrote-size (c .before .before .before .before .before .before .before .before .before .before .before .write-text2 .ensures)
-    ∙ wrote-size
-    (c .before .before .before .before .before .before .before .before .before .before .before .before .before .before .before .before .write-decimal .ensures)
-    ∙ wrote-size
-    (c .before .before .before .before .before .before .before .before .before .before .before .before .before .before .before .before .before .before .before .before .write-text .ensures)
+same-length c = wrote-size (c .before .before .write-text3 .ensures) ∙ wrote-size (c .before .before .before .before .before .before .before .write-why .ensures) ∙ wrote-size (c .before .before .before .before .before .before .before .before .before .before .before .write-text2 .ensures) ∙ wrote-size (c .before .before .before .before .before .before .before .before .before .before .before .before .before .before .before .before .write-decimal .ensures) ∙ wrote-size (c .before .before .before .before .before .before .before .before .before .before .before .before .before .before .before .before .before .before .before .before .write-text .ensures)
 
 returns : tie.Need-returns
 unfolding errorText
-returns c =
-    wrote-then
-    (c .before .before .before .before .before .before .before .before .before .before .before .before .before .before .before .before .before .before .before .before .write-text .ensures)
-    (wrote-then
-    (c .before .before .before .before .before .before .before .before .before .before .before .before .before .before .before .before .write-decimal .ensures)
-    (wrote-then (c .before .before .before .before .before .before .before .before .before .before .before .write-text2 .ensures)
-    (wrote-then (c .before .before .before .before .before .before .before .write-why .ensures)
-    (c .before .before .write-text3 .ensures))))
+returns c = wrote-then (c .before .before .before .before .before .before .before .before .before .before .before .before .before .before .before .before .before .before .before .before .write-text .ensures) (wrote-then (c .before .before .before .before .before .before .before .before .before .before .before .before .before .before .before .before .write-decimal .ensures) (wrote-then (c .before .before .before .before .before .before .before .before .before .before .before .write-text2 .ensures) (wrote-then (c .before .before .before .before .before .before .before .write-why .ensures) (c .before .before .write-text3 .ensures))))
 
 pub answer-bad-spec : {M : Type 1} → statement M
 answer-bad-spec =

@@ -1,10 +1,8 @@
 -- `lines::answer_fill`: memset on the first k words, and its answer as text. Assumes nothing.
 use mir.Facts.{toZ-ofZ}
 use mir.Syntax.{w32}
-use mathlib.Core.Path.{_≡_, refl, sym, _∙_, ap}
+use mathlib.Core.Path.{sym, ap}
 use Prim.Native.Nat.{ℕ}
-use native.Mathlib.Omega.{arith}
-use lib.ListN.{length, take, drop, take-append-drop}
 use lib.Seq.{length-take-le}
 use Rattle.words8.specs.Word.{W}
 use Rattle.show.proofs.Writing.{wrote-size}
@@ -13,10 +11,6 @@ use Rattle.lines.proofs.Calls.{moved}
 use borrow.Author.Needs.{needs}
 use Rattle.lines.proofs.answer_fill.Statement.{statement}
 use Rattle.lines.proofs.answer_fill.Tie as tie
-use Rattle.lines.proofs.answer_fill.Reads as reads
-use Rattle.lines.proofs.answer_fill.Lts as lts
-use Rattle.mem8.proofs.memset.Reads as memset-reads
-use Rattle.show.proofs.write_answer.Reads as write-answer-reads
 
 slice-relend-prefix-memset : tie.Need-slice-relend-prefix-memset
 slice-relend-prefix-memset c = search needs

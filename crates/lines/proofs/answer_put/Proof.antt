@@ -1,69 +1,41 @@
 -- `lines::answer_put` sets the bytes, and says how many. Assumes nothing.
-use mathlib.Core.Path.{_≡_, refl, sym, _∙_, ap}
-use native.Mathlib.Omega.{arith}
-use Rattle.show.proofs.Writing.{wrote-size, wrote-then, wrote-within}
+use mathlib.Core.Path.{_∙_}
+use Rattle.show.proofs.Writing.{wrote-size, wrote-then}
 use Rattle.show.proofs.TextLengths.{decimal-few}
 use Rattle.lines.specs.Lines.{putText}
+use Rattle.lines.proofs.Rooms.{room-after}
 use borrow.Author.Needs.{needs}
+use native.Mathlib.Omega.{arith}
 use Rattle.lines.proofs.answer_put.Statement.{statement}
 use Rattle.lines.proofs.answer_put.Tie as tie
-use Rattle.lines.proofs.answer_put.Reads as reads
-use Rattle.lines.proofs.answer_put.Lts as lts
-use Rattle.lines.proofs.memory.put_bytes.Reads as put-bytes-reads
-use Rattle.show.proofs.write_decimal.Reads as write-decimal-reads
-use Rattle.show.proofs.write_text.Reads as write-text-reads
 
 put-bytes-requires : tie.Need-put-bytes-requires
-put-bytes-requires c κs = c .before .before .before .before .pre .0
+put-bytes-requires c κs = search needs
 
 slice-aggregate-write-text : tie.Need-slice-aggregate-write-text
 slice-aggregate-write-text c = search needs
 
 write-text-requires : tie.Need-write-text-requires
-write-text-requires c κs = omega (arith, c .before .before .before .before .before .before .before .before .before .pre .1)
+write-text-requires c κs = search needs
 
 write-decimal-requires : tie.Need-write-decimal-requires
-write-decimal-requires c κs =
-    omega (
-      arith,
-      c .before .before .before .write-text .ensures .ends,
-      wrote-size (c .before .before .before .write-text .ensures),
-      c .before .before .before .before .before .before .before .before .before .before .before .before .before .pre .1,
-    )
+write-decimal-requires c κs = omega (arith, room-after 4 21 (c .before .before .before .write-text .ensures) (omega arith) (c .before .before .before .before .before .before .before .before .before .before .before .before .before .pre .2))
 
 slice-aggregate-write-text-2 : tie.Need-slice-aggregate-write-text-2
 slice-aggregate-write-text-2 c = search needs
 
 write-text-requires-2 : tie.Need-write-text-requires-2
-write-text-requires-2 c κs =
-    let few = wrote-within (decimal-few _) (c .before .before .before .before .write-decimal .ensures) in
-    omega (
-      arith,
-      few,
-      wrote-size (c .before .before .before .before .write-decimal .ensures),
-      wrote-size (c .before .before .before .before .before .before .before .before .write-text .ensures),
-      c .before .before .before .before .before .before .before .before .write-text .ensures .ends,
-      c .before .before .before .before .before .before .before .before .before .before .before .before .before .before .before .before .before .before .pre .1,
-    )
+write-text-requires-2 c κs = room-after 20 1 (c .before .before .before .before .write-decimal .ensures) (decimal-few _) (room-after 4 21 (c .before .before .before .before .before .before .before .before .write-text .ensures) (omega arith) (c .before .before .before .before .before .before .before .before .before .before .before .before .before .before .before .before .before .before .pre .2))
 
 same-length : tie.Need-same-length
-same-length c =
-    c .before .before .before .before .before .before .before .before .before .before .before .before .before .before .before .before .put-bytes .ensures .size
+same-length c = c .before .before .before .before .before .before .before .before .before .before .before .before .before .before .before .before .put-bytes .ensures .size
 
 same-length-2 : tie.Need-same-length-2
-same-length-2 c =
-    wrote-size (c .before .before .write-text2 .ensures)
-    ∙ wrote-size (c .before .before .before .before .before .before .before .write-decimal .ensures)
-    ∙ wrote-size (c .before .before .before .before .before .before .before .before .before .before .before .write-text .ensures)
+same-length-2 c = wrote-size (c .before .before .write-text2 .ensures) ∙ wrote-size (c .before .before .before .before .before .before .before .write-decimal .ensures) ∙ wrote-size (c .before .before .before .before .before .before .before .before .before .before .before .write-text .ensures)
 
 returns : tie.Need-returns
 unfolding putText
-returns c = (
-  c .before .before .before .before .before .before .before .before .before .before .before .before .before .before .before .before .put-bytes .ensures,
-  wrote-then (c .before .before .before .before .before .before .before .before .before .before .before .write-text .ensures)
-      (wrote-then (c .before .before .before .before .before .before .before .write-decimal .ensures)
-      (c .before .before .write-text2 .ensures)),
-)
+returns c = (c .before .before .before .before .before .before .before .before .before .before .before .before .before .before .before .before .put-bytes .ensures, wrote-then (c .before .before .before .before .before .before .before .before .before .before .before .write-text .ensures) (wrote-then (c .before .before .before .before .before .before .before .write-decimal .ensures) (c .before .before .write-text2 .ensures)))
 
 pub answer-put-spec : {M : Type 1} → statement M
 answer-put-spec =

@@ -1,8 +1,7 @@
 -- `lines::answer_ranges`: the call on the first k words, and its answer as text. Assumes nothing.
-use mathlib.Core.Path.{_≡_, refl, sym, _∙_, ap}
+use mathlib.Core.Path.{refl, sym, ap}
 use Prim.Native.Nat.{ℕ}
-use native.Mathlib.Omega.{arith}
-use lib.ListN.{length, take, drop, take-append-drop}
+use lib.ListN.{take-append-drop}
 use lib.Seq.{length-take-le}
 use Rattle.words8.specs.Word.{W}
 use Rattle.show.proofs.Writing.{wrote-size}
@@ -11,13 +10,6 @@ use Rattle.lines.proofs.Calls.{told, moved}
 use borrow.Author.Needs.{needs}
 use Rattle.lines.proofs.answer_ranges.Statement.{statement}
 use Rattle.lines.proofs.answer_ranges.Tie as tie
-use Rattle.lines.proofs.answer_ranges.Reads as reads
-use Rattle.lines.proofs.answer_ranges.Lts as lts
-use Rattle.mem8.proofs.bcmp.Reads as bcmp-reads
-use Rattle.mem8.proofs.memcmp.Reads as memcmp-reads
-use Rattle.mem8.proofs.memcpy.Reads as memcpy-reads
-use Rattle.mem8.proofs.memmove.Reads as memmove-reads
-use Rattle.show.proofs.write_answer.Reads as write-answer-reads
 
 slice-relend-prefix-lent : tie.Need-slice-relend-prefix-lent
 slice-relend-prefix-lent c = search needs

@@ -1,19 +1,11 @@
 -- `lines::answer_strlen`: strlen of the first k words, and its answer as text. Assumes nothing.
-use mathlib.Core.Path.{_≡_, refl, sym, _∙_, ap}
-use Prim.Native.Nat.{ℕ}
-use native.Mathlib.Omega.{arith}
-use lib.ListN.{length, take, drop, take-append-drop}
+use mathlib.Core.Path.{refl, sym}
 use lib.Seq.{length-take-le}
-use Rattle.words8.specs.Word.{W}
 use Rattle.show.proofs.Writing.{wrote-size}
 use Rattle.lines.proofs.Calls.{told}
 use borrow.Author.Needs.{needs}
 use Rattle.lines.proofs.answer_strlen.Statement.{statement}
 use Rattle.lines.proofs.answer_strlen.Tie as tie
-use Rattle.lines.proofs.answer_strlen.Reads as reads
-use Rattle.lines.proofs.answer_strlen.Lts as lts
-use Rattle.mem8.proofs.strlen.Reads as strlen-reads
-use Rattle.show.proofs.write_answer.Reads as write-answer-reads
 
 slice-aggregate-strlen : tie.Need-slice-aggregate-strlen
 slice-aggregate-strlen c = sym (length-take-le _ _ (c .before .before .before .before .pre .0))

@@ -16,21 +16,14 @@ write-answer-requires c κs = search needs
 write-all-requires : tie.Need-write-all-requires
 write-all-requires c κs = search needs
 
-slice-aggregate-write-all : tie.Need-slice-aggregate-write-all
-slice-aggregate-write-all c = search needs
-
-write-all-requires-2 : tie.Need-write-all-requires-2
-write-all-requires-2 c κs = search needs
-
 array-share-prefix-line : tie.Need-array-share-prefix-line
 array-share-prefix-line c = search needs
 
-slice-aggregate-write-all-2 : tie.Need-slice-aggregate-write-all-2
-slice-aggregate-write-all-2 c =
-    simp length-take (omega (arith, wrote-size (c .before .before .before .before .before .write-answer .ensures)))
+slice-aggregate-write-all : tie.Need-slice-aggregate-write-all
+slice-aggregate-write-all c = simp length-take (omega (arith, wrote-size (c .before .before .before .write-answer .ensures)))
 
-write-all-requires-3 : tie.Need-write-all-requires-3
-write-all-requires-3 c κs = search needs
+write-all-requires-2 : tie.Need-write-all-requires-2
+write-all-requires-2 c κs = search needs
 
 returns : tie.Need-returns
 returns c = search needs
@@ -42,9 +35,7 @@ print-answer-spec =
     slice-aggregate-write-answer
     write-answer-requires
     write-all-requires
+    array-share-prefix-line
     slice-aggregate-write-all
     write-all-requires-2
-    array-share-prefix-line
-    slice-aggregate-write-all-2
-    write-all-requires-3
     returns)

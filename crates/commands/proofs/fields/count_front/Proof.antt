@@ -1,17 +1,15 @@
 -- `commands::fields::count_front` counts the bytes in front that are of a kind.
 -- Invariant: those before place i are, and those from there on are still to be counted. The measure is what is left. Assumes nothing.
 use borrow.Author.Needs.{needs}
-use mathlib.Core.Path.{_≡_, _∙_, refl, sym}
+use mathlib.Core.Path.{_≡_, _∙_, sym}
 use Prim.Native.Nat.{_+_, _-_, _≤_}
 use lib.ListN.{length, drop}
 use native.Mathlib.Omega.{arith}
-use Rattle.commands.specs.Fields.{belongs, front}
-use Rattle.commands.proofs.Reading.{front-more, front-stops, front-ends}
+use Rattle.commands.specs.Fields.{belongs}
+use Rattle.texts.specs.Texts.{front}
+use Rattle.texts.proofs.Fronts.{front-more, front-stops, front-ends}
 use Rattle.commands.proofs.fields.count_front.Statement.{statement}
 use Rattle.commands.proofs.fields.count_front.Tie as tie
-use Rattle.commands.proofs.fields.count_front.Reads as reads
-use Rattle.commands.proofs.fields.count_front.Lts as lts
-use Rattle.commands.proofs.fields.is_of.Reads as is-of-reads
 
 abbrev Inv-loop : tie.InvT-loop
 Inv-loop s kind i₀ i = (i ≤ length s) × (front (belongs kind) s ≡ i + front (belongs kind) (drop i s))

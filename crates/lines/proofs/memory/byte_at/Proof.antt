@@ -1,15 +1,10 @@
 -- `lines::memory::byte_at`: a load of one byte is that byte. Assumes nothing.
-use mathlib.Core.Path.{_≡_, refl, sym, _∙_, ap}
-use Prim.Native.Nat.{_+_, _*_, _-_, _/_, _≤_}
-use native.Mathlib.Omega.{arith}
+use mathlib.Core.Path.{_∙_}
 use Rattle.model.proofs.ByteLaws.{readLE-one}
 use Rattle.model.proofs.MemoryLaws.{view-lt}
 use borrow.Author.Needs.{needs}
 use Rattle.lines.proofs.memory.byte_at.Statement.{statement}
 use Rattle.lines.proofs.memory.byte_at.Tie as tie
-use Rattle.lines.proofs.memory.byte_at.Reads as reads
-use Rattle.lines.proofs.memory.byte_at.Lts as lts
-use Rattle.words8.proofs.access.load.Reads as load-reads
 
 load-requires : tie.Need-load-requires
 load-requires c κs = search needs

@@ -1,15 +1,12 @@
 -- `lines::memory::clear` sets every word to 0.
 -- Invariant: the first i words are 0, the others as they were. The measure is what is left. Assumes nothing.
-use mathlib.Core.Path.{_≡_, refl, sym, _∙_, ap}
-use Prim.Native.Nat.{_+_, _*_, _-_, _/_, _≤_}
+use Prim.Native.Nat.{_-_}
 use native.Mathlib.Omega.{arith}
 use lib.ListN.{length}
 use Rattle.lines.proofs.BytesLaws.{Cleared, cleared-none, cleared-more, cleared-all}
 use borrow.Author.Needs.{needs}
 use Rattle.lines.proofs.memory.clear.Statement.{statement}
 use Rattle.lines.proofs.memory.clear.Tie as tie
-use Rattle.lines.proofs.memory.clear.Reads as reads
-use Rattle.lines.proofs.memory.clear.Lts as lts
 
 abbrev Inv-loop : tie.InvT-loop
 Inv-loop mem₀ i₀ mem i = Cleared mem₀ i mem

@@ -1,8 +1,7 @@
 -- `lines::memory::write_bytes` writes the bytes from an address on.
 -- Invariant: the digits of the first i bytes are written. The measure is what is left. Assumes nothing.
-use lib.ListN.{length}
-use mathlib.Core.Path.{_≡_, refl, sym, _∙_, ap}
-use Prim.Native.Nat.{_+_, _*_, _-_, _/_, _≤_}
+use mathlib.Core.Path.{_≡_}
+use Prim.Native.Nat.{_-_, _≤_}
 use native.Mathlib.Omega.{arith}
 use Rattle.model.specs.Memory.{view}
 use Rattle.words8.specs.Word.{W}
@@ -14,10 +13,6 @@ use Rattle.lines.proofs.BytesLaws.{unwritten, hex-length, hex-more}
 use borrow.Author.Needs.{needs}
 use Rattle.lines.proofs.memory.write_bytes.Statement.{statement}
 use Rattle.lines.proofs.memory.write_bytes.Tie as tie
-use Rattle.lines.proofs.memory.write_bytes.Reads as reads
-use Rattle.lines.proofs.memory.write_bytes.Lts as lts
-use Rattle.lines.proofs.memory.byte_at.Reads as byte-at-reads
-use Rattle.show.proofs.write_byte.Reads as write-byte-reads
 
 abbrev Inv-loop : tie.InvT-loop
 Inv-loop mem address count out₀ at past₀ i₀ out past i = (Wrote (hexText (view W mem) address i) at out₀ out past) × (i ≤ count)

@@ -1,0 +1,33 @@
+-- `commands::words_field` holds the number of words against the most. Assumes nothing.
+use mathlib.Core.Path.{_∙_, sym}
+use borrow.Author.Tests.{lt-ltb, le-ltb}
+use Rattle.commands.specs.Commands.{wordsField}
+use borrow.Author.Needs.{needs}
+use Rattle.commands.proofs.words_field.Statement.{statement}
+use Rattle.commands.proofs.words_field.Tie as tie
+
+number-field-requires : tie.Need-number-field-requires
+number-field-requires c κs = search needs
+
+enum-known-k : tie.Need-enum-known-k
+enum-known-k c = search needs
+
+returns : tie.Need-returns
+unfolding wordsField
+returns c = rw (sym (c .before .before .before .before .number-field .ensures) ∙ c .before .before .k .given .1, lt-ltb _ _ (c .if1 .taken))
+
+enum-known-why : tie.Need-enum-known-why
+enum-known-why c = search needs
+
+returns-2 : tie.Need-returns-2
+unfolding wordsField
+returns-2 c = rw (sym (c .before .before .before .before .number-field .ensures) ∙ c .before .before .k .given .1, le-ltb _ _ (c .if1 .left))
+
+returns-3 : tie.Need-returns-3
+unfolding wordsField
+returns-3 c = rw (sym (c .before .before .before .number-field .ensures) ∙ c .before .why .given .1)
+
+pub words-field-spec : {M : Type 1} → statement M
+words-field-spec =
+    tie.close
+    (tie.spec number-field-requires enum-known-k returns enum-known-why returns-2 returns-3)

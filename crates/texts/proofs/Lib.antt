@@ -1,0 +1,5 @@
+pub mod Fronts
+pub mod TextLaws
+pub mod DigitLaws
+pub mod NumberLaws
+pub mod Signs

@@ -1,0 +1,4 @@
+pub mod Codes
+pub mod Texts
+pub mod Digits
+pub mod Numbers
