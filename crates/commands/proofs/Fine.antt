@@ -103,9 +103,12 @@ module _ (most : ℕ) where
     abbrev FineRow : Row → Type 0
     FineRow r = (n : ℕ → ℕ) → AllGood (after s) 0 n (r .kinds) → FineIn most s (r .says n)
 
-    abbrev FineRows : List Row → Type 0
-    FineRows [] = Unit {0}
-    FineRows (r ∷ rs) = (FineRow r) × (FineRows rs)
+    data FineRows : List Row → Type 0 where
+      none : FineRows []
+      next : {r : Row} {rs : List Row} → FineRow r → FineRows rs → FineRows (r ∷ rs)
+
+    also : {r : Row} {rs : List Row} → FineRow r → FineRows rs → FineRows (r ∷ rs)
+    also fine later = next fine later
 
     fine-choose : (t : Bool) (a b : Command) → (t ≡ true → FineIn most s a) → FineIn most s b → FineIn most s (choose t a b)
     unfolding choose
@@ -122,11 +125,12 @@ module _ (most : ℕ) where
 
     fine-rows : (rs : List Row) → FineRows rs → FineIn most s (lookUp most s rs)
     unfolding lookUp
-    fine-rows [] fine = bad
-    fine-rows (r ∷ rs) fine =
-        fine-choose (isText (r .word) (fieldOf s)) (readBy most s r) (lookUp most s rs) (λ is. fine-read r (fine .0)) (fine-rows rs (fine .1))
+    fine-rows [] none = bad
+    fine-rows (r ∷ rs) (next fine later) =
+        fine-choose (isText (r .word) (fieldOf s)) (readBy most s r) (lookUp most s rs) (λ is. fine-read r fine) (fine-rows rs later)
 
-    fine-inside : (address count : ℕ) (c : Command) → (address + count ≤ memoryBytes → FineIn most s c) → FineIn most s (inside address count c)
+    fine-inside : (address count : ℕ) (c : Command) → (address + count ≤ memoryBytes → FineIn most s c)
+        → FineIn most s (inside address count c)
     unfolding inside within
     fine-inside address count c fine = fine-choose (within address count) c _ (λ in'. fine (leb-true _ _ in')) bad
 
@@ -138,34 +142,17 @@ module _ (most : ℕ) where
 
     -- The rows, one by one.
     all-fine : FineRows (rows s)
-    all-fine = (
-      λ n good. record { fine = good .0 .words refl },
-      (
-        λ n good. record { fine = good .0 .words refl },
-        (
-          λ n good. record { fine = good .0 .words refl },
-          (
-            λ n good. record { fine = good .0 .words refl },
-            (
-              λ n good. record { fine = good .0 .words refl },
-              (
-                λ n good. record { fine = good .0 .words refl },
-                (
-                  put-fine,
-                  (
-                    λ n good. fine-inside (n 0) (n 1) (Get (n 0) (n 1)) (λ in'. record { fine = in' }),
-                    (
-                      λ n good. record { fine = tt },
-                      tt,
-                    ),
-                  ),
-                ),
-              ),
-            ),
-          ),
-        ),
-      ),
-    )
+    all-fine =
+        also (λ n good. record { fine = good .0 .words refl })
+        (also (λ n good. record { fine = good .0 .words refl })
+        (also (λ n good. record { fine = good .0 .words refl })
+        (also (λ n good. record { fine = good .0 .words refl })
+        (also (λ n good. record { fine = good .0 .words refl })
+        (also (λ n good. record { fine = good .0 .words refl })
+        (also put-fine
+        (also (λ n good. fine-inside (n 0) (n 1) (Get (n 0) (n 1)) (λ in'. record { fine = in' }))
+        (also (λ n good. record { fine = tt })
+        none))))))))
 
     fine-line : FineIn most s (commandOf most s)
     unfolding commandOf

@@ -18,7 +18,8 @@ use Rattle.commands.specs.Fields.{fieldOf, after, isEmpty, Spans}
 use Rattle.commands.specs.Sizes.{mostFields}
 use Rattle.commands.specs.declared.fields.Span.{Span}
 use Rattle.commands.proofs.Reading.{empty-here}
-use Rattle.commands.specs.Commands.{numberField, wordsField, valueField, hexField, operandOf, numbers, wrong, with-number, reading, readFrom, listed}
+use Rattle.commands.specs.Commands.{numberField, wordsField, valueField, hexField, operandOf, numbers, wrong, with-number, reading, readFrom}
+use Rattle.commands.specs.Tables.{listed}
 
 -- A number that is stored is the number of its field.
 stored : (ns : List ℕ) (i v : ℕ) → i < length ns → with-number i v (listed ns) ≡ listed (set ns i v)

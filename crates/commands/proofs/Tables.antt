@@ -19,8 +19,8 @@ use Rattle.commands.specs.Fields.{fieldOf, fieldEnd, after, isEmpty, Spa
 use Rattle.commands.specs.declared.fields.Span.{Span}
 use Rattle.commands.proofs.Reading.{empty-here}
 use Rattle.commands.specs.Sizes.{mostLine, mostFields, rowCount}
-use Rattle.commands.specs.Tables.{wordTable, kindTable}
-use Rattle.commands.specs.Commands.{Reading, numbers, wrong, readFrom, listed, Row, row, choose, rows, rowAt, made, readBy, lookUp, commandOf}
+use Rattle.commands.specs.Tables.{wordTable, kindTable, listed, rowAt}
+use Rattle.commands.specs.Commands.{Reading, numbers, wrong, readFrom, Row, row, choose, rows, made, readBy, lookUp, commandOf}
 
 abbrev no-row : Row
 no-row = row "" "" (λ n. Nothing)

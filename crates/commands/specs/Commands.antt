@@ -8,7 +8,7 @@ use Prim.Native.Nat.{ℕ, _+_, _/_, _%_}
 use Prim.Native.String.{String}
 use lib.Dec.{eqb, leb, ltb}
 use lib.IntN.{ℤ, pos}
-use lib.ListN.{length, getD}
+use lib.ListN.{length}
 use Rattle.texts.specs.Codes.{codes}
 use Rattle.texts.specs.Texts.{isText}
 use Rattle.commands.specs.declared.Why.{Why}
@@ -19,8 +19,6 @@ use Rattle.commands.specs.declared.Command.{Command}
 use Rattle.commands.specs.declared.Command.the-variants.{Nothing, Ranges, Fill, Strlen, Put, Get, Clear, Bad}
 use Rattle.commands.specs.declared.Operand.{Operand}
 use Rattle.commands.specs.declared.Operand.the-variants.{Is, Not}
-use Rattle.commands.specs.declared.Found.{Found}
-use Rattle.commands.specs.declared.Found.the-variants.{Good, Wrong}
 use Rattle.texts.specs.declared.numbers.Number.{Number}
 use Rattle.texts.specs.declared.numbers.Number.the-variants.{Of, None}
 use Rattle.texts.specs.declared.numbers.Value.{Value}
@@ -147,16 +145,3 @@ lookUp most s (r ∷ rs) = choose (isText (r .word) (fieldOf s)) (readBy most s 
 unfoldable pub commandOf : ℕ → List ℕ → Command
 commandOf most s =
     choose (ltb mostLine (length s)) (Bad TooLong) (choose (isEmpty (fieldOf s)) Nothing (lookUp most s (rows s)))
-
--- The numbers that stand in a list.
-abbrev pub listed : List ℕ → ℕ → ℕ
-listed ns i = getD ns i 0
-
--- What the code finds, with the numbers that it lists.
-abbrev pub reported : Found → List ℕ → Reading
-reported Good ns = numbers (listed ns)
-reported (Wrong why) ns = wrong why
-
--- Row i, and a row of no word past the last.
-abbrev pub rowAt : List ℕ → ℕ → Row
-rowAt s i = getD (rows s) i (row "" "" (λ n. Nothing))

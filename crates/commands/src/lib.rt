@@ -16,15 +16,15 @@ ghost use Prim.Native.Nat.{_<_, _≤_};
 ghost use lib.ListN.{length, getD};
 ghost use Rattle.texts.specs.Texts.{numberIn};
 ghost use Rattle.commands.specs.Fields.{fieldEnd};
-ghost use Rattle.commands.specs.Commands.{numberField, wordsField, valueField, hexField, operandOf, readFrom, listed, reported, within, inside, valueAt, rowAt, readBy, commandOf};
+ghost use Rattle.commands.specs.Commands.{numberField, wordsField, valueField, hexField, operandOf, readFrom, within, inside, valueAt, readBy, commandOf};
 ghost use Rattle.commands.specs.Sizes.{mostFields, rowCount};
-ghost use Rattle.commands.specs.Tables.{wordTable};
+ghost use Rattle.commands.specs.Tables.{wordTable, listed, reported, rowAt};
 
 // The most bytes of a line.
 pub const MOST_LINE: usize = 16383;
 
 // The bytes of the memory.
-const MOST_BYTES: usize = 65536;
+const MEMORY_BYTES: usize = 65536;
 
 // The most fields of a command, its word apart.
 const MOST_FIELDS: usize = 4;
@@ -168,10 +168,10 @@ fn read_fields(s: &[u8], kinds: &[u8], most: usize, numbers: &mut [usize; MOST_F
 fn is_inside(address: usize, count: usize) -> bool
     ensures { λ r. ⌜ r ≡ within address count ⌝ }
 {
-    if address > MOST_BYTES {
+    if address > MEMORY_BYTES {
         return false;
     }
-    if count > MOST_BYTES - address {
+    if count > MEMORY_BYTES - address {
         return false;
     }
     true
@@ -218,7 +218,7 @@ fn say(line: &[u8], row: usize, numbers: &[usize; MOST_FIELDS]) -> Command
     }
 }
 
-// The commands' words, and the kinds of their fields, in the order of docs/TEXT-FORM.md.
+// The commands' words, in the order of docs/TEXT-FORM.md. The kinds of their fields stand in `known`, in the same order.
 fn row_of(word: &[u8]) -> usize
     ensures { λ r. ⌜ r ≡ numberIn rowCount wordTable (now (word .entry)) ⌝ }
 {
@@ -229,6 +229,7 @@ fn row_of(word: &[u8]) -> usize
     )
 }
 
+// What the line of a row says. Its word ends at `end`.
 fn known(line: &[u8], row: usize, end: usize, most: usize) -> Command
     requires { ⌜ (row < rowCount) × (end ≡ fieldEnd (now line)) × (end ≤ length (now line)) ⌝ }
     ensures { λ r. ⌜ r ≡ readBy most (now (line .entry)) (rowAt (now (line .entry)) row) ⌝ }

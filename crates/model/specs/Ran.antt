@@ -1,4 +1,5 @@
--- What a routine did, by the accesses that it made: what the contracts of routines that make accesses say.
+-- What a routine leaves, and the record that it hands back, by a list of accesses: the bytes that performing the list would leave, and the
+-- list's tally. The contracts of routines that make accesses say so.
 -- Assumes nothing.
 use mathlib.Core.Path.{_≡_}
 use mathlib.Core.List.{List, [], _∷_}

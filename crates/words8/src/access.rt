@@ -1,5 +1,5 @@
-// The accesses. These two routines, and no others, touch the words and make the record of one access. (tools/accesses holds the
-// source to that: a contract, which speaks of values alone, would not see it.)
+// The accesses. Inside a call these two routines, and no others, touch the words and make the record of one access. (tools/accesses holds
+// the source to that: a contract, which speaks of values alone, would not see it.)
 use crate::WORD_SIZE;
 use crate::Word;
 use crate::bytes::part;

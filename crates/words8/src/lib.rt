@@ -1,4 +1,4 @@
-// The lent words: the only code that touches them, and what is done with the bytes of one word or two.
+// The lent words: inside a call the only code that touches them, and what is done with the bytes of one word or two.
 pub mod access;
 pub mod bytes;
 pub mod chunk;

@@ -1,4 +1,4 @@
--- `backward8::copy_backward` performs its list: where its tail is left, the rest is done (`begun`), whichever way it came.
+-- `backward8::copy_backward` leaves what performing its list would leave: where its tail is left, the rest is done (`begun`), whichever way it came.
 -- Assumes nothing.
 use mathlib.Core.Path.{refl, _∙_}
 use mathlib.Core.Bool.{false}

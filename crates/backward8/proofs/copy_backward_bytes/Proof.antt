@@ -1,4 +1,4 @@
--- `backward8::copy_backward_bytes` performs its list.
+-- `backward8::copy_backward_bytes` leaves what performing its list would leave.
 -- Invariant: so many bytes are copied (`Turned`). The measure is the destination's cursor. Assumes nothing.
 use mathlib.Core.Path.{_≡_, refl}
 use mathlib.Core.Bool.{false}

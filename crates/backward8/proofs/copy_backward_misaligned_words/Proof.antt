@@ -1,4 +1,4 @@
--- `backward8::copy_backward_misaligned_words` performs its list.
+-- `backward8::copy_backward_misaligned_words` leaves what performing its list would leave.
 -- Invariant: the first partial load and so many turns are done, and what is left to store of the word loaded last is held (`Turning`).
 -- The measure is the destination's cursor. Assumes nothing.
 use mathlib.Core.Path.{_≡_, refl}

@@ -26,13 +26,24 @@ row-of-requires : tie.Need-row-of-requires
 row-of-requires c κs = search needs
 
 returns-3 : tie.Need-returns-3
-returns-3 c = command-unknown _ _ (c .before .before .before .before .before .if1 .left) (c .before .before .before .before .first-field .ensures) _ (c .before .before .before .if2 .left) (c .before .row-of .ensures) (c .if3 .taken)
+returns-3 c =
+    command-unknown _ _ (c .before .before .before .before .before .if1 .left) (c .before .before .before .before .first-field .ensures) _
+    (c .before .before .before .if2 .left) (c .before .row-of .ensures) (c .if3 .taken)
 
 known-requires : tie.Need-known-requires
-known-requires c κs = (row-below (c .before .before .before .before .before .before .before .args .most) _ (c .before .before .before .before .before .if1 .left) (c .before .before .before .before .first-field .ensures) _ (c .before .before .before .if2 .left) (c .before .row-of .ensures) (c .if3 .left), c .before .before .before .before .first-field .ensures .ends, c .before .before .before .before .first-field .ensures .inside)
+known-requires c κs = (
+  row-below (c .before .before .before .before .before .before .before .args .most) _ (c .before .before .before .before .before .if1 .left)
+      (c .before .before .before .before .first-field .ensures) _ (c .before .before .before .if2 .left) (c .before .row-of .ensures)
+      (c .if3 .left),
+  c .before .before .before .before .first-field .ensures .ends,
+  c .before .before .before .before .first-field .ensures .inside,
+)
 
 returns-4 : tie.Need-returns-4
-returns-4 c = command-known _ _ (c .before .before .before .before .before .before .if1 .left) (c .before .before .before .before .before .first-field .ensures) _ (c .before .before .before .before .if2 .left) (c .before .before .row-of .ensures) _ (c .before .if3 .left) (c .known .ensures)
+returns-4 c =
+    command-known _ _ (c .before .before .before .before .before .before .if1 .left)
+    (c .before .before .before .before .before .first-field .ensures) _ (c .before .before .before .before .if2 .left)
+    (c .before .before .row-of .ensures) _ (c .before .if3 .left) (c .known .ensures)
 
 pub command-of-spec : {M : Type 1} → statement M
 command-of-spec =

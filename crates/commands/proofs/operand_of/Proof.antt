@@ -29,7 +29,9 @@ returns-4 : tie.Need-returns-4
 returns-4 c = operand-hex _ _ _ _ (c .before .before .if1 .left) (c .before .match .keys3) (c .hex-field .ensures)
 
 returns-5 : tie.Need-returns-5
-returns-5 c = operand-number _ _ _ _ (c .before .before .if1 .left) (c .before .match .rest .0 .0 .1) (c .before .match .rest .0 .1) (c .before .match .rest .1) (c .number-field .ensures)
+returns-5 c =
+    operand-number _ _ _ _ (c .before .before .if1 .left) (c .before .match .rest .0 .0 .1) (c .before .match .rest .0 .1)
+    (c .before .match .rest .1) (c .number-field .ensures)
 
 pub operand-of-spec : {M : Type 1} → statement M
 operand-of-spec =

@@ -47,7 +47,11 @@ enum-known-why : tie.Need-enum-known-why Inv-loop μ-loop
 enum-known-why c = search needs
 
 returns : tie.Need-returns Inv-loop μ-loop
-returns c = read-wrong (c .before .before .before .before .before .before .before .before .loop .inv) (c .before .before .before .before .before .before .before .loop-test .taken) (c .before .before .before .before .before .before .first-field .ensures) (c .before .before .before .operand-of .ensures) _ (c .before .why .given .1)
+returns c =
+    read-wrong (c .before .before .before .before .before .before .before .before .loop .inv)
+    (c .before .before .before .before .before .before .before .loop-test .taken)
+    (c .before .before .before .before .before .before .first-field .ensures) (c .before .before .before .operand-of .ensures) _
+    (c .before .why .given .1)
 
 sub-rest : tie.Need-sub-rest Inv-loop μ-loop
 sub-rest c = search needs
@@ -65,16 +69,26 @@ loop-less : tie.Need-loop-less Inv-loop μ-loop
 loop-less c = search needs
 
 loop-again : tie.Need-loop-again Inv-loop μ-loop
-loop-again c = read-more (c .before .before .before .before .before .before .before .before .before .loop .inv) (c .before .before .before .before .before .before .before .before .loop-test .taken) (c .before .before .before .before .before .before .before .first-field .ensures) (c .before .before .before .before .operand-of .ensures) _ (c .before .before .before .before .before .before .before .before .before .before .before .before .pre .0) (c .before .before .n .given .1)
+loop-again c =
+    read-more (c .before .before .before .before .before .before .before .before .before .loop .inv)
+    (c .before .before .before .before .before .before .before .before .loop-test .taken)
+    (c .before .before .before .before .before .before .before .first-field .ensures)
+    (c .before .before .before .before .operand-of .ensures) _
+    (c .before .before .before .before .before .before .before .before .before .before .before .before .pre .0)
+    (c .before .before .n .given .1)
 
 first-field-requires-2 : tie.Need-first-field-requires-2 Inv-loop μ-loop
 first-field-requires-2 c κs = search needs
 
 returns-2 : tie.Need-returns-2 Inv-loop μ-loop
-returns-2 c = read-all (c .before .before .before .before .loop .inv) (c .before .before .before .loop-test .left) (c .before .before .first-field2 .ensures) (c .if1 .taken)
+returns-2 c =
+    read-all (c .before .before .before .before .loop .inv) (c .before .before .before .loop-test .left)
+    (c .before .before .first-field2 .ensures) (c .if1 .taken)
 
 returns-3 : tie.Need-returns-3 Inv-loop μ-loop
-returns-3 c = read-further (c .before .before .before .before .loop .inv) (c .before .before .before .loop-test .left) (c .before .before .first-field2 .ensures) (c .if1 .left)
+returns-3 c =
+    read-further (c .before .before .before .before .loop .inv) (c .before .before .before .loop-test .left)
+    (c .before .before .first-field2 .ensures) (c .if1 .left)
 
 pub read-fields-spec : {M : Type 1} → statement M
 read-fields-spec =

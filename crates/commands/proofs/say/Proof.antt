@@ -54,7 +54,10 @@ returns-8 : tie.Need-returns-8
 returns-8 c = rw (c .before .match .keys8) (c .inside-memory2 .ensures)
 
 returns-9 : tie.Need-returns-9
-returns-9 c = let last : c .before .before .before .before .before .before .args .row ≡ 8 = omega (arith, none-below 8 (c .before .before .before .before .before .before .args .row) (c .match .rest)) in rw last
+returns-9 c =
+    let row = c .before .before .before .before .before .before .args .row in
+    let last : row ≡ 8 = omega (arith, none-below 8 row (c .match .rest)) in
+    rw last
 
 pub say-spec : {M : Type 1} → statement M
 say-spec =

@@ -21,7 +21,9 @@ enum-told c = search needs
 
 returns : tie.Need-returns
 unfolding valueAt
-returns c = rw (← c .before .before .before .before .field-at .ensures, sym (c .before .before .before .value-of .ensures) ∙ c .before .c .given .1) (toZ-ofZ {w = w32} (record { sfits = c .known-told .given .0 .1 }))
+returns c =
+    rw (← c .before .before .before .before .field-at .ensures, sym (c .before .before .before .value-of .ensures) ∙ c .before .c .given .1)
+    (toZ-ofZ {w = w32} (record { sfits = c .known-told .given .0 .1 }))
 
 returns-2 : tie.Need-returns-2
 unfolding valueAt

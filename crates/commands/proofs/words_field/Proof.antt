@@ -21,7 +21,8 @@ enum-known-why c = search needs
 
 returns-2 : tie.Need-returns-2
 unfolding wordsField
-returns-2 c = rw (sym (c .before .before .before .before .number-field .ensures) ∙ c .before .before .k .given .1, le-ltb _ _ (c .if1 .left))
+returns-2 c =
+    rw (sym (c .before .before .before .before .number-field .ensures) ∙ c .before .before .k .given .1, le-ltb _ _ (c .if1 .left))
 
 returns-3 : tie.Need-returns-3
 unfolding wordsField

@@ -1,4 +1,4 @@
--- `fills8::set_bytes` performs its list: where its tail is left, the rest is done (`begun`), whichever way it came.
+-- `fills8::set_bytes` leaves what performing its list would leave: where its tail is left, the rest is done (`begun`), whichever way it came.
 -- Assumes nothing.
 use mathlib.Core.Path.{refl, _∙_}
 use mathlib.Core.Bool.{true}

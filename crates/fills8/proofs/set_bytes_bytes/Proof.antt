@@ -1,4 +1,4 @@
--- `fills8::set_bytes_bytes` performs its list.
+-- `fills8::set_bytes_bytes` leaves what performing its list would leave.
 -- Invariant: so many bytes are stored (`FilledTo`). The measure is what is left. Assumes nothing.
 use mathlib.Core.Path.{_≡_, refl, sym}
 use Prim.Native.Nat.{_-_}

@@ -1,4 +1,4 @@
--- `fills8::set_bytes_words` performs its list.
+-- `fills8::set_bytes_words` leaves what performing its list would leave.
 -- Invariant: so many words are stored (`FilledTo`). The measure is what is left. Assumes nothing.
 use mathlib.Core.Path.{_≡_, refl}
 use Prim.Native.Nat.{_-_, _/_}

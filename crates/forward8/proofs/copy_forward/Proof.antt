@@ -1,4 +1,4 @@
--- `forward8::copy_forward` performs its list: where its tail is left, the rest is done (`begun`), whichever way it came.
+-- `forward8::copy_forward` leaves what performing its list would leave: where its tail is left, the rest is done (`begun`), whichever way it came.
 -- Assumes nothing.
 use mathlib.Core.Path.{refl, _∙_}
 use mathlib.Core.Bool.{true}

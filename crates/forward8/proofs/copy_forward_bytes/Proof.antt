@@ -1,4 +1,4 @@
--- `forward8::copy_forward_bytes` performs its list.
+-- `forward8::copy_forward_bytes` leaves what performing its list would leave.
 -- Invariant: so many bytes are copied (`Turned`). The measure is what is left. Assumes nothing.
 use mathlib.Core.Path.{_≡_, refl}
 use mathlib.Core.Bool.{true}

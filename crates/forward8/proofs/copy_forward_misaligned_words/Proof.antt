@@ -1,4 +1,4 @@
--- `forward8::copy_forward_misaligned_words` performs its list.
+-- `forward8::copy_forward_misaligned_words` leaves what performing its list would leave.
 -- Invariant: the first partial load and so many turns are done, and what is left to store of the word loaded last is held (`Turning`).
 -- The measure is what is left. Assumes nothing.
 use mathlib.Core.Path.{refl}

@@ -19,19 +19,31 @@ enum-known-command : tie.Need-enum-known-command
 enum-known-command c = search needs
 
 answer-ranges-requires : tie.Need-answer-ranges-requires
-answer-ranges-requires c κs = (omega (arith, rw (c .before .before .before .command .given .1) at (c .before .before .before .before .before .before .before .before .pre .2), c .before .before .before .before .before .before .before .before .pre .0), omega (arith, c .before .before .before .before .before .before .before .before .pre .1))
+answer-ranges-requires c κs = (
+  omega
+      (arith, rw (c .before .before .before .command .given .1) at (c .before .before .before .before .before .before .before .before .pre .2), c .before .before .before .before .before .before .before .before .pre .0),
+  omega (arith, c .before .before .before .before .before .before .before .before .pre .1),
+)
 
 enum-known-command-2 : tie.Need-enum-known-command-2
 enum-known-command-2 c = search needs
 
 answer-fill-requires : tie.Need-answer-fill-requires
-answer-fill-requires c κs = (omega (arith, rw (c .before .before .before .command2 .given .1) at (c .before .before .before .before .before .before .before .before .pre .2), c .before .before .before .before .before .before .before .before .pre .0), omega (arith, c .before .before .before .before .before .before .before .before .pre .1))
+answer-fill-requires c κs = (
+  omega
+      (arith, rw (c .before .before .before .command2 .given .1) at (c .before .before .before .before .before .before .before .before .pre .2), c .before .before .before .before .before .before .before .before .pre .0),
+  omega (arith, c .before .before .before .before .before .before .before .before .pre .1),
+)
 
 enum-known-command-3 : tie.Need-enum-known-command-3
 enum-known-command-3 c = search needs
 
 answer-strlen-requires : tie.Need-answer-strlen-requires
-answer-strlen-requires c κs = (omega (arith, rw (c .before .before .before .command3 .given .1) at (c .before .before .before .before .before .before .before .before .pre .2), c .before .before .before .before .before .before .before .before .pre .0), omega (arith, c .before .before .before .before .before .before .before .before .pre .1))
+answer-strlen-requires c κs = (
+  omega
+      (arith, rw (c .before .before .before .command3 .given .1) at (c .before .before .before .before .before .before .before .before .pre .2), c .before .before .before .before .before .before .before .before .pre .0),
+  omega (arith, c .before .before .before .before .before .before .before .before .pre .1),
+)
 
 enum-known-command-4 : tie.Need-enum-known-command-4
 enum-known-command-4 c = search needs
@@ -48,16 +60,24 @@ field-of-requires c κs =
 
 answer-put-requires : tie.Need-answer-put-requires
 answer-put-requires c κs =
-    let fine = rw (c .before .before .before .before .command4 .given .1) at (c .before .before .before .before .before .before .before .before .before .pre .2) in
-    (rw (c .before .field-of .ensures, c .before .before .before .before .before .before .before .before .before .pre .0) (record { few = omega arith; inside = omega (arith, fine .0, fine .1) }), rw (c .before .field-of .ensures) (fine .2), omega (arith, c .before .before .before .before .before .before .before .before .before .pre .1))
+    let fine = rw (c .before .before .before .before .command4 .given .1) at
+    (c .before .before .before .before .before .before .before .before .before .pre .2) in (
+      rw (c .before .field-of .ensures, c .before .before .before .before .before .before .before .before .before .pre .0)
+          (record { few = omega arith; inside = omega (arith, fine .0, fine .1) }),
+      rw (c .before .field-of .ensures) (fine .2),
+      omega (arith, c .before .before .before .before .before .before .before .before .before .pre .1),
+    )
 
 enum-known-command-5 : tie.Need-enum-known-command-5
 enum-known-command-5 c = search needs
 
 answer-get-requires : tie.Need-answer-get-requires
 answer-get-requires c κs =
-    let fine = rw (c .before .before .before .command5 .given .1) at (c .before .before .before .before .before .before .before .before .pre .2) in
-    (rw (c .before .before .before .before .before .before .before .before .pre .0) (record { few = omega arith; inside = fine }), omega (arith, fine, c .before .before .before .before .before .before .before .before .pre .1))
+    let fine = rw (c .before .before .before .command5 .given .1) at
+    (c .before .before .before .before .before .before .before .before .pre .2) in (
+      rw (c .before .before .before .before .before .before .before .before .pre .0) (record { few = omega arith; inside = fine }),
+      omega (arith, fine, c .before .before .before .before .before .before .before .before .pre .1),
+    )
 
 enum-told-2 : tie.Need-enum-told-2
 enum-told-2 c = search needs
@@ -73,7 +93,9 @@ answer-bad-requires c κs = omega (arith, c .before .before .before .before .bef
 
 returns : tie.Need-returns
 unfolding answerOf LeftBy
-returns c = rw (c .enum-told .given .1) (record { memory = refl; text = wrote-none _ _ (omega (arith, c .before .before .before .before .before .pre .1)) })
+returns c =
+    rw (c .enum-told .given .1)
+    (record { memory = refl; text = wrote-none _ _ (omega (arith, c .before .before .before .before .before .pre .1)) })
 
 same-length : tie.Need-same-length
 same-length c = search needs
@@ -83,7 +105,9 @@ same-length-2 c = wrote-size (c .before .before .before .before .answer-ranges .
 
 returns-2 : tie.Need-returns-2
 unfolding answerOf LeftBy
-returns-2 c = rw (c .before .before .before .before .before .before .before .before .command .given .1) (record { memory = c .before .before .before .before .answer-ranges .ensures .0; text = c .before .before .before .before .answer-ranges .ensures .1 })
+returns-2 c =
+    rw (c .before .before .before .before .before .before .before .before .command .given .1)
+    (record { memory = c .before .before .before .before .answer-ranges .ensures .0; text = c .before .before .before .before .answer-ranges .ensures .1 })
 
 same-length-3 : tie.Need-same-length-3
 same-length-3 c = search needs
@@ -94,8 +118,11 @@ same-length-4 c = wrote-size (c .before .before .before .before .answer-fill .en
 returns-3 : tie.Need-returns-3
 unfolding answerOf LeftBy
 returns-3 c =
-    let filled = rw (toZ-ofZ {w = w32} (record { sfits = c .before .before .before .before .before .before .before .known-told2 .given .1 .1 .0 .1 })) at (c .before .before .before .before .answer-fill .ensures) in
-    rw (c .before .before .before .before .before .before .before .before .command2 .given .1) (record { memory = filled .0; text = filled .1 })
+    let filled = rw
+    (toZ-ofZ {w = w32} (record { sfits = c .before .before .before .before .before .before .before .known-told2 .given .1 .1 .0 .1 })) at
+    (c .before .before .before .before .answer-fill .ensures) in
+    rw (c .before .before .before .before .before .before .before .before .command2 .given .1)
+    (record { memory = filled .0; text = filled .1 })
 
 same-length-5 : tie.Need-same-length-5
 same-length-5 c = search needs
@@ -105,7 +132,9 @@ same-length-6 c = wrote-size (c .before .before .answer-strlen .ensures)
 
 returns-4 : tie.Need-returns-4
 unfolding answerOf LeftBy
-returns-4 c = rw (c .before .before .before .before .before .before .command3 .given .1) (record { memory = refl; text = c .before .before .answer-strlen .ensures })
+returns-4 c =
+    rw (c .before .before .before .before .before .before .command3 .given .1)
+    (record { memory = refl; text = c .before .before .answer-strlen .ensures })
 
 same-length-7 : tie.Need-same-length-7
 same-length-7 c = c .before .before .before .before .answer-put .ensures .0 .size
@@ -116,10 +145,15 @@ same-length-8 c = wrote-size (c .before .before .before .before .answer-put .ens
 returns-5 : tie.Need-returns-5
 unfolding answerOf LeftBy
 returns-5 c =
-    let fine = rw (c .before .before .before .before .before .before .before .before .before .command4 .given .1) at (c .before .before .before .before .before .before .before .before .before .before .before .before .before .before .pre .2) in
-    let half : length (fieldAt (c .before .before .before .before .before .before .before .before .before .before .before .before .before .before .args .line .now) 2) / 2 ≡ c .before .before .before .before .before .before .before .before .before .command4 .given .0 .1 .0 = omega (arith, fine .1) in
-    let put = rw (c .before .before .before .before .before .before .field-of .ensures, half) at (c .before .before .before .before .answer-put .ensures) in
-    rw (c .before .before .before .before .before .before .before .before .before .command4 .given .1) (record { memory = put .0; text = put .1 })
+    let fine = rw (c .before .before .before .before .before .before .before .before .before .command4 .given .1) at
+    (c .before .before .before .before .before .before .before .before .before .before .before .before .before .before .pre .2) in
+    let half : length
+    (fieldAt (c .before .before .before .before .before .before .before .before .before .before .before .before .before .before .args .line .now) 2)
+    / 2 ≡ c .before .before .before .before .before .before .before .before .before .command4 .given .0 .1 .0 = omega (arith, fine .1) in
+    let put = rw (c .before .before .before .before .before .before .field-of .ensures, half) at
+    (c .before .before .before .before .answer-put .ensures) in
+    rw (c .before .before .before .before .before .before .before .before .before .command4 .given .1)
+    (record { memory = put .0; text = put .1 })
 
 same-length-9 : tie.Need-same-length-9
 same-length-9 c = search needs
@@ -129,7 +163,9 @@ same-length-10 c = wrote-size (c .before .before .answer-get .ensures)
 
 returns-6 : tie.Need-returns-6
 unfolding answerOf LeftBy
-returns-6 c = rw (c .before .before .before .before .before .before .command5 .given .1) (record { memory = refl; text = c .before .before .answer-get .ensures })
+returns-6 c =
+    rw (c .before .before .before .before .before .before .command5 .given .1)
+    (record { memory = refl; text = c .before .before .answer-get .ensures })
 
 same-length-11 : tie.Need-same-length-11
 same-length-11 c = search needs
@@ -139,14 +175,18 @@ same-length-12 c = wrote-size (c .before .before .before .before .answer-clear .
 
 returns-7 : tie.Need-returns-7
 unfolding answerOf LeftBy
-returns-7 c = rw (c .before .before .before .before .before .before .before .enum-told2 .given .1) (record { memory = c .before .before .before .before .answer-clear .ensures .0; text = c .before .before .before .before .answer-clear .ensures .1 })
+returns-7 c =
+    rw (c .before .before .before .before .before .before .before .enum-told2 .given .1)
+    (record { memory = c .before .before .before .before .answer-clear .ensures .0; text = c .before .before .before .before .answer-clear .ensures .1 })
 
 same-length-13 : tie.Need-same-length-13
 same-length-13 c = wrote-size (c .before .before .answer-bad .ensures)
 
 returns-8 : tie.Need-returns-8
 unfolding answerOf LeftBy
-returns-8 c = rw (c .before .before .before .before .before .command6 .given .1) (record { memory = refl; text = c .before .before .answer-bad .ensures })
+returns-8 c =
+    rw (c .before .before .before .before .before .command6 .given .1)
+    (record { memory = refl; text = c .before .before .answer-bad .ensures })
 
 pub answer-command-spec : {M : Type 1} → statement M
 answer-command-spec =

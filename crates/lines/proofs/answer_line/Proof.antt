@@ -9,7 +9,11 @@ command-of-requires : tie.Need-command-of-requires
 command-of-requires c κs = search needs
 
 answer-command-requires : tie.Need-answer-command-requires
-answer-command-requires c κs = (c .before .before .before .before .before .before .pre .0, c .before .before .before .before .before .before .pre .1, rw (c .before .command-of .ensures) (fine-command memoryWords (c .before .before .before .before .before .before .args .line .now)))
+answer-command-requires c κs = (
+  c .before .before .before .before .before .before .pre .0,
+  c .before .before .before .before .before .before .pre .1,
+  rw (c .before .command-of .ensures) (fine-command memoryWords (c .before .before .before .before .before .before .args .line .now)),
+)
 
 same-length : tie.Need-same-length
 same-length c = search needs
@@ -18,7 +22,9 @@ same-length-2 : tie.Need-same-length-2
 same-length-2 c = search needs
 
 returns : tie.Need-returns
-returns c = rw (c .before .before .before .before .before .before .command-of .ensures) at (c .before .before .before .before .answer-command .ensures)
+returns c =
+    rw (c .before .before .before .before .before .before .command-of .ensures) at
+    (c .before .before .before .before .answer-command .ensures)
 
 pub answer-line-spec : {M : Type 1} → statement M
 answer-line-spec =

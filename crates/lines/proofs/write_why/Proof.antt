@@ -20,14 +20,17 @@ write-text-requires : tie.Need-write-text-requires
 unfolding whyText
 write-text-requires c κs =
     let is = c .text-at .ensures ∙ ap (textAt reasons) (c .before .reason-number .ensures) in
-    omega (arith, why-few (c .before .before .before .before .before .before .args .why), ap length is, c .before .before .before .before .before .before .pre)
+    omega
+    (arith, why-few (c .before .before .before .before .before .before .args .why), ap length is, c .before .before .before .before .before .before .pre)
 
 same-length : tie.Need-same-length
 same-length c = search needs
 
 returns : tie.Need-returns
 unfolding whyText
-returns c = wrote-as (c .before .before .before .text-at .ensures ∙ ap (textAt reasons) (c .before .before .before .before .reason-number .ensures)) (c .before .before .write-text .ensures)
+returns c =
+    wrote-as (c .before .before .before .text-at .ensures ∙ ap (textAt reasons) (c .before .before .before .before .reason-number .ensures))
+    (c .before .before .write-text .ensures)
 
 pub write-why-spec : {M : Type 1} → statement M
 write-why-spec =

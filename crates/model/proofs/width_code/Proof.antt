@@ -5,8 +5,6 @@ use borrow.Author.Needs.{needs}
 use Rattle.model.proofs.Widths.{last-width}
 use Rattle.model.proofs.width_code.Statement.{statement}
 use Rattle.model.proofs.width_code.Tie as tie
-use Rattle.model.proofs.width_code.Reads as reads
-use Rattle.model.proofs.width_code.Lts as lts
 
 returns : tie.Need-returns
 returns c = search needs

@@ -35,7 +35,8 @@ loop-less : tie.Need-loop-less Inv-loop μ-loop
 loop-less c = search needs
 
 loop-again : tie.Need-loop-again Inv-loop μ-loop
-loop-again c = c .before .before .before .loop .inv ∙ after-next _ _ _ (c .before .before .loop-test .taken) (c .before .first-field .ensures .ends)
+loop-again c =
+    c .before .before .before .loop .inv ∙ after-next _ _ _ (c .before .before .loop-test .taken) (c .before .first-field .ensures .ends)
 
 returns : tie.Need-returns Inv-loop μ-loop
 returns c = after-none _ _ (c .loop-test .left) ∙ sym (c .before .loop .inv)

@@ -25,12 +25,14 @@ part-t-end c = search needs
 
 slice-aggregate-result : tie.Need-slice-aggregate-result
 slice-aggregate-result c =
-    let size = ap (λ s. length (fieldOf s)) (c .before .before .before .after-fields .ensures) ∙ c .before .before .before .before .before .pre in
+    let size = ap (λ s. length (fieldOf s)) (c .before .before .before .after-fields .ensures) ∙ c .before .before .before .before .before
+    .pre in
     sym (length-take-le _ _ (field-sized _ _ _ (c .before .before .count-front .ensures .0) size .1))
 
 returns : tie.Need-returns
 returns c =
-    let size = ap (λ s. length (fieldOf s)) (c .before .before .before .after-fields .ensures) ∙ c .before .before .before .before .before .pre in
+    let size = ap (λ s. length (fieldOf s)) (c .before .before .before .after-fields .ensures) ∙ c .before .before .before .before .before
+    .pre in
     field-sized _ _ _ (c .before .before .count-front .ensures .0) size .0 ∙ ap fieldOf (c .before .before .before .after-fields .ensures)
 
 pub field-of-spec : {M : Type 1} → statement M

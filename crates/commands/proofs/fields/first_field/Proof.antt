@@ -23,7 +23,9 @@ add-end : tie.Need-add-end
 add-end c = search needs
 
 returns : tie.Need-returns
-returns c = spans _ _ _ (c .before .before .count-front .ensures .0) (c .before .before .count-front .ensures .1) (c .count-front2 .ensures .0) (c .count-front2 .ensures .1)
+returns c =
+    spans _ _ _ (c .before .before .count-front .ensures .0) (c .before .before .count-front .ensures .1) (c .count-front2 .ensures .0)
+    (c .count-front2 .ensures .1)
 
 pub first-field-spec : {M : Type 1} → statement M
 first-field-spec =

@@ -28,7 +28,8 @@ returns-3 : tie.Need-returns-3
 returns-3 c = rw (c .before .enum-told .given .1) (c .is-blank .ensures)
 
 returns-4 : tie.Need-returns-4
-returns-4 c = rw (c .before .before .before .enum-told2 .given .1) (ap not (c .is-blank2 .ensures) ∙ sym (letter-or-blank _ (c .before .if2 .left)))
+returns-4 c =
+    rw (c .before .before .before .enum-told2 .given .1) (ap not (c .is-blank2 .ensures) ∙ sym (letter-or-blank _ (c .before .if2 .left)))
 
 pub is-of-spec : {M : Type 1} → statement M
 is-of-spec =

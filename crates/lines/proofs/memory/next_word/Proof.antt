@@ -42,19 +42,27 @@ shared-slice-read-two-digits-2 c = omega (arith, c .before .before .before .befo
 
 two-digits-requires : tie.Need-two-digits-requires Inv-loop μ-loop
 two-digits-requires c κs =
-    let at = 2 * (c .before .before .before .before .before .args .i + (c .before .before .before .loop .left - 1)) in
-    (digit-at (c .before .before .before .before .before .args .hex .now) at (c .before .before .before .before .before .pre .1) (omega (arith, c .before .before .before .before .before .pre .0)), digit-at (c .before .before .before .before .before .args .hex .now) (at + 1) (c .before .before .before .before .before .pre .1) (omega (arith, c .before .before .before .before .before .pre .0)))
+    let at = 2 * (c .before .before .before .before .before .args .i + (c .before .before .before .loop .left - 1)) in (
+      digit-at (c .before .before .before .before .before .args .hex .now) at (c .before .before .before .before .before .pre .1)
+          (omega (arith, c .before .before .before .before .before .pre .0)),
+      digit-at (c .before .before .before .before .before .args .hex .now) (at + 1) (c .before .before .before .before .before .pre .1)
+          (omega (arith, c .before .before .before .before .before .pre .0)),
+    )
 
 -- The next byte, by its digits.
 next : (c : tie.After-two-digits Inv-loop μ-loop)
-    → c .two-digits .result ≡ hexAt (c .before .before .before .before .before .before .args .hex .now) (c .before .before .before .before .before .before .args .i + (c .before .before .before .before .loop .left - 1))
+    → c .two-digits .result ≡ hexAt (c .before .before .before .before .before .before .args .hex .now)
+    (c .before .before .before .before .before .before .args .i + (c .before .before .before .before .loop .left - 1))
 next c =
     let at = 2 * (c .before .before .before .before .before .before .args .i + (c .before .before .before .before .loop .left - 1)) in
-    hex-byte (c .before .before .before .before .before .before .args .hex .now) _ _ (digit-at (c .before .before .before .before .before .before .args .hex .now) at (c .before .before .before .before .before .before .pre .1) (omega (arith, c .before .before .before .before .before .before .pre .0))) (digit-at (c .before .before .before .before .before .before .args .hex .now) (at + 1) (c .before .before .before .before .before .before .pre .1) (omega (arith, c .before .before .before .before .before .before .pre .0)))
+    hex-byte (c .before .before .before .before .before .before .args .hex .now) _ _
+    (digit-at (c .before .before .before .before .before .before .args .hex .now) at (c .before .before .before .before .before .before .pre .1) (omega (arith, c .before .before .before .before .before .before .pre .0)))
+    (digit-at (c .before .before .before .before .before .before .args .hex .now) (at + 1) (c .before .before .before .before .before .before .pre .1) (omega (arith, c .before .before .before .before .before .before .pre .0)))
     (c .two-digits .ensures)
 
 add-word : tie.Need-add-word Inv-loop μ-loop
-add-word c = record { fits = word-fits (c .before .before .before .before .loop .inv) _ (c .before .before .before .loop-test .taken) (next c) }
+add-word c =
+    record { fits = word-fits (c .before .before .before .before .loop .inv) _ (c .before .before .before .loop-test .taken) (next c) }
 
 loop-less : tie.Need-loop-less Inv-loop μ-loop
 loop-less c = search needs

@@ -20,13 +20,20 @@ loop-holds : tie.Need-loop-holds Inv-loop μ-loop
 loop-holds c = (put-none _ _ _ _, omega arith)
 
 put-next-requires : tie.Need-put-next-requires Inv-loop μ-loop
-put-next-requires c κs = (rw (c .before .before .loop .inv .0 .size) (c .before .before .before .before .before .pre .0), c .before .before .before .before .before .pre .1, c .before .loop-test .taken)
+put-next-requires c κs = (
+  rw (c .before .before .loop .inv .0 .size) (c .before .before .before .before .before .pre .0),
+  c .before .before .before .before .before .pre .1,
+  c .before .loop-test .taken,
+)
 
 loop-less : tie.Need-loop-less Inv-loop μ-loop
 loop-less c = omega (arith, c .before .before .put-next .ensures .more, c .before .before .put-next .ensures .few)
 
 loop-again : tie.Need-loop-again Inv-loop μ-loop
-loop-again c = (put-then (c .before .before .before .before .before .loop .inv .0) (c .before .before .put-next .ensures), c .before .before .put-next .ensures .few)
+loop-again c = (
+  put-then (c .before .before .before .before .before .loop .inv .0) (c .before .before .put-next .ensures),
+  c .before .before .put-next .ensures .few,
+)
 
 same-length : tie.Need-same-length Inv-loop μ-loop
 same-length c = c .before .loop .inv .0 .size

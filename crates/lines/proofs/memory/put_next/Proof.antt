@@ -32,7 +32,8 @@ same-length c = search needs
 returns : tie.Need-returns
 returns c =
     let start = c .before .before .before .before .before .before .before .before .before in
-    put-stored (start .args .hex .now) (start .args .address) (start .args .i) W _ _ (c .before .before .store .ensures) refl (omega arith) (omega (arith, c .before .before .before .before .before .if2 .taken))
+    put-stored (start .args .hex .now) (start .args .address) (start .args .i) W _ _ (c .before .before .store .ensures) refl (omega arith)
+    (omega (arith, c .before .before .before .before .before .if2 .taken))
     (c .before .before .before .next-word .ensures)
 
 mul-two-digits : tie.Need-mul-two-digits
@@ -54,8 +55,10 @@ two-digits-requires : tie.Need-two-digits-requires
 two-digits-requires c κs =
     let start = c .before .before .before .before .before .before in
     let hex = start .args .hex .now in
-    let all = start .pre .1 in
-    (digit-at hex (2 * start .args .i) all (omega (arith, start .pre .2)), digit-at hex (2 * start .args .i + 1) all (omega (arith, start .pre .2)))
+    let all = start .pre .1 in (
+      digit-at hex (2 * start .args .i) all (omega (arith, start .pre .2)),
+      digit-at hex (2 * start .args .i + 1) all (omega (arith, start .pre .2)),
+    )
 
 store-requires-2 : tie.Need-store-requires-2
 store-requires-2 c κs = search needs

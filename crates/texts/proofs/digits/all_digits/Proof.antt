@@ -35,7 +35,12 @@ loop-less : tie.Need-loop-less Inv-loop μ-loop
 loop-less c = search needs
 
 loop-again : tie.Need-loop-again Inv-loop μ-loop
-loop-again c = (omega arith, omega (arith, c .one-if-digit .ensures .1), c .before .before .before .loop .inv .2 ∙ all-more _ _ _ _ (c .before .before .loop-test .taken) (c .before .before .before .loop .inv .1) (c .one-if-digit .ensures .0))
+loop-again c = (
+  omega arith,
+  omega (arith, c .one-if-digit .ensures .1),
+  c .before .before .before .loop .inv .2 ∙ all-more _ _ _ _ (c .before .before .loop-test .taken) (c .before .before .before .loop .inv .1)
+      (c .one-if-digit .ensures .0),
+)
 
 returns : tie.Need-returns Inv-loop μ-loop
 returns c = sym (c .before .loop .inv .2 ∙ all-end _ _ _ (c .loop-test .left))

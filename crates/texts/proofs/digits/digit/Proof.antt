@@ -18,7 +18,9 @@ add-result : tie.Need-add-result
 add-result c = search needs
 
 returns-2 : tie.Need-returns-2
-returns-2 c = digit-upper _ _ (c .before .before .before .wrapping-sub-u8 .ensures) _ (c .before .before .if1 .left) (omega arith) (c .before .wrapping-sub-u82 .ensures) (c .if2 .taken)
+returns-2 c =
+    digit-upper _ _ (c .before .before .before .wrapping-sub-u8 .ensures) _ (c .before .before .if1 .left) (omega arith)
+    (c .before .wrapping-sub-u82 .ensures) (c .if2 .taken)
 
 wrapping-sub-u8-requires-3 : tie.Need-wrapping-sub-u8-requires-3
 wrapping-sub-u8-requires-3 c κs = search needs
@@ -27,10 +29,16 @@ add-result-2 : tie.Need-add-result-2
 add-result-2 c = search needs
 
 returns-3 : tie.Need-returns-3
-returns-3 c = digit-lower _ _ (c .before .before .before .before .before .wrapping-sub-u8 .ensures) _ (c .before .before .before .before .if1 .left) (omega arith) (c .before .before .before .wrapping-sub-u82 .ensures) _ (c .before .before .if2 .left) (omega arith) (c .before .wrapping-sub-u83 .ensures) (c .if3 .taken)
+returns-3 c =
+    digit-lower _ _ (c .before .before .before .before .before .wrapping-sub-u8 .ensures) _ (c .before .before .before .before .if1 .left)
+    (omega arith) (c .before .before .before .wrapping-sub-u82 .ensures) _ (c .before .before .if2 .left) (omega arith)
+    (c .before .wrapping-sub-u83 .ensures) (c .if3 .taken)
 
 returns-4 : tie.Need-returns-4
-returns-4 c = digit-none-of _ _ (c .before .before .before .before .before .wrapping-sub-u8 .ensures) _ (c .before .before .before .before .if1 .left) (omega arith) (c .before .before .before .wrapping-sub-u82 .ensures) _ (c .before .before .if2 .left) (omega arith) (c .before .wrapping-sub-u83 .ensures) (c .if3 .left) (omega arith)
+returns-4 c =
+    digit-none-of _ _ (c .before .before .before .before .before .wrapping-sub-u8 .ensures) _ (c .before .before .before .before .if1 .left)
+    (omega arith) (c .before .before .before .wrapping-sub-u82 .ensures) _ (c .before .before .if2 .left) (omega arith)
+    (c .before .wrapping-sub-u83 .ensures) (c .if3 .left) (omega arith)
 
 pub digit-spec : {M : Type 1} → statement M
 digit-spec =

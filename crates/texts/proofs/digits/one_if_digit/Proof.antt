@@ -23,17 +23,21 @@ cast-result-2 : tie.Need-cast-result-2
 cast-result-2 c = search needs
 
 add-result : tie.Need-add-result
-add-result c = omega (arith, one-few (ltb (c .before .before .wrapping-sub-u8 .result) 10), one-few (ltb (c .before .wrapping-sub-u82 .result) 6))
+add-result c =
+    omega (arith, one-few (ltb (c .before .before .wrapping-sub-u8 .result) 10), one-few (ltb (c .before .wrapping-sub-u82 .result) 6))
 
 cast-result-3 : tie.Need-cast-result-3
 cast-result-3 c = search needs
 
 add-result-2 : tie.Need-add-result-2
-add-result-2 c = omega (arith, one-few (ltb (c .before .before .wrapping-sub-u8 .result) 10), one-few (ltb (c .before .wrapping-sub-u82 .result) 6), one-few (ltb (c .wrapping-sub-u83 .result) 6))
+add-result-2 c =
+    omega
+    (arith, one-few (ltb (c .before .before .wrapping-sub-u8 .result) 10), one-few (ltb (c .before .wrapping-sub-u82 .result) 6), one-few (ltb (c .wrapping-sub-u83 .result) 6))
 
 returns : tie.Need-returns
 returns c =
-    let is = one-digit (c .before .before .before .args .byte) _ _ _ (c .before .before .wrapping-sub-u8 .ensures) (c .before .wrapping-sub-u82 .ensures)
+    let is = one-digit (c .before .before .before .args .byte) _ _ _ (c .before .before .wrapping-sub-u8 .ensures)
+    (c .before .wrapping-sub-u82 .ensures)
     (c .wrapping-sub-u83 .ensures) (omega arith) (omega arith) (omega arith) in
     (is, one-most _ (ltb (digitOf (c .before .before .before .args .byte)) 16) is)
 

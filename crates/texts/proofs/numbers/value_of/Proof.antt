@@ -66,7 +66,8 @@ positive-requires c κs =
     omega (
       arith,
       digits-most 10 2147483647 (c .before .n2 .given .0 .0)
-          (c .before .before .before .before .before .before .before .before .args .s .now) (sym (c .before .before .before .digits2 .ensures)
+          (c .before .before .before .before .before .before .before .before .args .s .now)
+          (sym (c .before .before .before .digits2 .ensures)
           ∙ c .before .n2 .given .1),
     )
 

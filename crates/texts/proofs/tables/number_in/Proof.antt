@@ -29,7 +29,10 @@ is-text-requires : tie.Need-is-text-requires Inv-loop μ-loop
 is-text-requires c κs = search needs
 
 returns : tie.Need-returns Inv-loop μ-loop
-returns c = number-here _ _ _ _ (c .before .before .before .before .loop-test .taken) (rw (← c .before .before .before .first-length .ensures .0) (sym (c .before .is-text .ensures) ∙ c .if1 .taken)) ∙ sym (c .before .before .before .before .before .loop .inv .1)
+returns c =
+    number-here _ _ _ _ (c .before .before .before .before .loop-test .taken)
+    (rw (← c .before .before .before .first-length .ensures .0) (sym (c .before .is-text .ensures) ∙ c .if1 .taken)) ∙ sym
+    (c .before .before .before .before .before .loop .inv .1)
 
 past-first-requires : tie.Need-past-first-requires Inv-loop μ-loop
 past-first-requires c κs = c .before .before .before .first-length .ensures .0
@@ -50,7 +53,13 @@ loop-less : tie.Need-loop-less Inv-loop μ-loop
 loop-less c = search needs
 
 loop-again : tie.Need-loop-again Inv-loop μ-loop
-loop-again c = (omega arith, c .before .before .before .before .before .before .before .loop .inv .1 ∙ number-later _ _ _ _ _ (c .before .before .before .before .before .before .loop-test .taken) (rw (← c .before .before .before .before .before .first-length .ensures .0) (sym (c .before .before .before .is-text .ensures) ∙ c .before .before .if1 .left)) (c .before .past-first .ensures .0))
+loop-again c = (
+  omega arith,
+  c .before .before .before .before .before .before .before .loop .inv .1 ∙ number-later _ _ _ _ _
+      (c .before .before .before .before .before .before .loop-test .taken)
+      (rw (← c .before .before .before .before .before .first-length .ensures .0) (sym (c .before .before .before .is-text .ensures) ∙ c .before .before .if1 .left))
+      (c .before .past-first .ensures .0),
+)
 
 returns-2 : tie.Need-returns-2 Inv-loop μ-loop
 returns-2 c = number-none _ _ _ _ (c .loop-test .left) ∙ sym (c .before .loop .inv .1)

@@ -14,7 +14,10 @@ returns : tie.Need-returns
 returns c = (rw (c .before .pre), omega arith)
 
 returns-2 : tie.Need-returns-2
-returns-2 c = (later-none _ _ (c .before .pre) (c .if1 .left), omega (arith, c .before .pre, c .if1 .left, front-within ofText (c .before .args .table .now)))
+returns-2 c = (
+  later-none _ _ (c .before .pre) (c .if1 .left),
+  omega (arith, c .before .pre, c .if1 .left, front-within ofText (c .before .args .table .now)),
+)
 
 pub past-first-spec : {M : Type 1} → statement M
 past-first-spec = tie.close (tie.spec add-result returns returns-2)

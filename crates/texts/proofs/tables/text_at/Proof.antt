@@ -39,7 +39,9 @@ loop-less : tie.Need-loop-less Inv-loop μ-loop
 loop-less c = search needs
 
 loop-again : tie.Need-loop-again Inv-loop μ-loop
-loop-again c = c .before .before .before .before .loop .inv ∙ text-next _ _ _ (c .before .before .before .loop-test .taken) (c .before .past-first .ensures .0)
+loop-again c =
+    c .before .before .before .before .loop .inv ∙ text-next _ _ _ (c .before .before .before .loop-test .taken)
+    (c .before .past-first .ensures .0)
 
 first-length-requires-2 : tie.Need-first-length-requires-2 Inv-loop μ-loop
 first-length-requires-2 c κs = search needs
@@ -48,7 +50,9 @@ slice-aggregate-result : tie.Need-slice-aggregate-result Inv-loop μ-loop
 slice-aggregate-result c = sym (length-take-le _ _ (c .before .first-length2 .ensures .1))
 
 returns : tie.Need-returns Inv-loop μ-loop
-returns c = rw (c .before .first-length2 .ensures .0) (text-zero _ _ (c .before .before .loop-test .left) ∙ sym (c .before .before .before .loop .inv))
+returns c =
+    rw (c .before .first-length2 .ensures .0)
+    (text-zero _ _ (c .before .before .loop-test .left) ∙ sym (c .before .before .before .loop .inv))
 
 pub text-at-spec : {M : Type 1} → statement M
 text-at-spec =
