@@ -1,8 +1,8 @@
 // What a line of text says: docs/TEXT-FORM.md, as functions on slices.
 mod fields;
 
+use crate::fields::field_at;
 use crate::fields::first_field;
-use fields::field_at;
 pub use fields::field_of;
 use texts::Number;
 use texts::Value;
@@ -13,7 +13,7 @@ use texts::text_at;
 use texts::value_of;
 ghost use mathlib.Core.Path.{_≡_};
 ghost use Prim.Native.Nat.{_<_, _≤_};
-ghost use lib.ListN.{length, getD};
+ghost use lib.ListN.{length};
 ghost use Rattle.texts.specs.Texts.{numberIn};
 ghost use Rattle.commands.specs.Fields.{fieldEnd};
 ghost use Rattle.commands.specs.Commands.{numberField, wordsField, valueField, hexField, operandOf, readFrom, within, inside, valueAt, readBy, commandOf};

@@ -19,6 +19,7 @@ use show::write_answer;
 use show::write_decimal;
 use show::write_text;
 use texts::text_at;
+use words8::WORD_SIZE;
 use words8::Word;
 ghost use mathlib.Core.Bool.{true};
 ghost use mathlib.Core.Path.{_≡_};
@@ -42,7 +43,7 @@ ghost use Rattle.lines.specs.Sizes.{memoryWords, mostPut, mostWhy, mostE
 pub const MEMORY_WORDS: usize = 8192;
 
 // The most bytes of an answer: `bytes`, a space, two digits for each byte of the memory, and the newline.
-pub const LONGEST_ANSWER: usize = 131079;
+pub const LONGEST_ANSWER: usize = 2 * WORD_SIZE * MEMORY_WORDS + 7;
 
 fn answer_ranges(
     mem: &mut [Word],

@@ -2,7 +2,7 @@
 ghost use mathlib.Core.Path.{_≡_};
 ghost use Prim.Native.Nat.{_≤_};
 ghost use lib.ListN.{length, drop};
-ghost use Rattle.texts.specs.Texts.{starts, isText, firstLength, firstText, laterTexts, textAt, numberIn};
+ghost use Rattle.texts.specs.Texts.{starts, isText, firstLength, laterTexts, textAt, numberIn};
 
 // Whether a text stands in front.
 pub fn starts_with(s: &[u8], text: &[u8]) -> bool
