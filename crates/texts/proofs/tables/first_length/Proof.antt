@@ -1,6 +1,7 @@
 -- `texts::tables::first_length` counts the bytes before the first `;`.
 -- Invariant: those before place i belong to the text. The measure is what is left. Assumes nothing.
-use mathlib.Core.Path.{_≡_}
+use mathlib.Core.Path.{_≡_, ap}
+use mathlib.Core.Bool.{not}
 use Prim.Native.Nat.{_+_, _-_, _≤_}
 use lib.ListN.{length, drop}
 use native.Mathlib.Omega.{arith}
@@ -25,7 +26,7 @@ shared-slice-read-if1 c = search needs
 
 returns : tie.Need-returns Inv-loop μ-loop
 returns c = (
-  front-stops _ _ _ (c .before .before .before .loop .inv .1) (c .before .before .loop-test .taken) (rw (eq-eqb _ _ (c .if1 .taken))),
+  front-stops _ _ _ (c .before .before .before .loop .inv .1) (c .before .before .loop-test .taken) (ap not (eq-eqb _ 59 (c .if1 .taken))),
   omega arith,
 )
 
@@ -38,7 +39,7 @@ loop-less c = search needs
 loop-again : tie.Need-loop-again Inv-loop μ-loop
 loop-again c = (
   omega arith,
-  front-more _ _ _ (c .before .before .before .loop .inv .1) (c .before .before .loop-test .taken) (rw (ne-eqb _ _ (c .if1 .left))),
+  front-more _ _ _ (c .before .before .before .loop .inv .1) (c .before .before .loop-test .taken) (ap not (ne-eqb _ 59 (c .if1 .left))),
 )
 
 returns-2 : tie.Need-returns-2 Inv-loop μ-loop
