@@ -18,11 +18,11 @@ ghost use mathlib.Core.List.{[], _∷_, _++_};
 ghost use Prim.Native.Nat.{_+_, _-_, _/_, _%_, _<_};
 ghost use lib.ListN.{length};
 ghost use Rattle.model.specs.Access.{load, store};
-ghost use Rattle.model.specs.Asked.{Both, Words, Across};
+ghost use Rattle.runs.specs.Asked.{Both, Words, Across};
 ghost use Rattle.model.specs.Fit.{Range};
 ghost use Rattle.model.specs.Lists.{pairs, endPartial, misaligned, near, along};
 ghost use Rattle.model.specs.Perform.{moving};
-ghost use Rattle.model.specs.Ran.{Anything, Carried, Pending, Ran};
+ghost use Rattle.runs.specs.Ran.{Anything, Carried, Pending, Ran};
 ghost use Rattle.words8.specs.Word.{W};
 
 // The following backward copy functions take the addresses past the end instead of those of the start!

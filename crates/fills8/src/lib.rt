@@ -13,7 +13,7 @@ ghost use lib.ListN.{length};
 ghost use Rattle.model.specs.Fit.{Range};
 ghost use Rattle.model.specs.Lists.{stores, fillList};
 ghost use Rattle.model.specs.Perform.{filling};
-ghost use Rattle.model.specs.Ran.{Ran};
+ghost use Rattle.runs.specs.Ran.{Ran};
 ghost use Rattle.words8.specs.Word.{W};
 
 fn set_bytes_bytes(mem: &mut [Word], s: usize, c: u8, n: usize) -> Work

@@ -15,7 +15,7 @@ use Rattle.model.proofs.ByteLaws.{byte-lt, readLE-lt, readLE-byte, readLE-one, 
 use Rattle.texts.specs.Codes.{codes}
 use Rattle.texts.specs.Digits.{digitOf}
 use Rattle.words8.specs.Word.{W}
-use Rattle.model.specs.Ran.{Stored}
+use Rattle.runs.specs.Ran.{Stored}
 use Rattle.model.proofs.MemoryLaws.{over-in, over-below, over-above, over-cong, Place, below, inside, above, place}
 use Rattle.show.specs.Numbers.{hexByte}
 use Rattle.show.specs.Written.{Wrote}

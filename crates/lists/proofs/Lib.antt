@@ -13,11 +13,4 @@ pub mod Placed
 pub mod Lengths
 pub mod Bounds
 pub mod Firsts
-pub mod Signs
 pub mod Measured
-pub mod Asking
-pub mod Turns
-pub mod Straddled
-pub mod Misaligned
-pub mod Phases
-pub mod Passed

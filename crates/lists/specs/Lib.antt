@@ -1,3 +1,2 @@
 pub mod Cover
 pub mod Sizes
-pub mod Places

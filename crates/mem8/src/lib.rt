@@ -23,7 +23,7 @@ ghost use Rattle.model.specs.Lists.{moveList, upward};
 ghost use Rattle.model.specs.Memory.{byteOf};
 ghost use Rattle.model.specs.Perform.{moving};
 ghost use Rattle.model.specs.Promises.{CopyPromise, MovePromise, FillPromise, ComparePromise, BcmpPromise, StringPromise};
-ghost use Rattle.model.specs.Ran.{Ran};
+ghost use Rattle.runs.specs.Ran.{Ran};
 ghost use Rattle.words8.specs.Word.{W};
 ghost use Rattle.mem8.specs.Scanned.{scanSaid};
 

@@ -1,15 +1,20 @@
 -- An answer is what it says: from the paper's outcome and counts it can be read back, so a promise on `answered` leaves one answer.
+-- A string's reply, by what is checked before a byte is read.
 -- Assumes nothing.
 use mathlib.Core.Path.{_≡_, refl, sym, ap, _∙_}
 use mathlib.Core.Bool.{cond}
+use mathlib.Core.List.{List}
 use Prim.Native.Nat.{ℕ}
 use lib.Dec.{eqb}
+use lib.ListN.{length}
 use Rattle.model.specs.declared.Answer.{Answer}
 use Rattle.model.specs.declared.Outcome.{Outcome}
 use Rattle.model.specs.declared.Outcome.the-variants.{Address, Number, Length, Refused}
 use Rattle.model.specs.declared.Refusal.{Refusal}
 use Rattle.model.specs.declared.Refusal.the-variants.{TooLarge, FirstOutside, SecondOutside, Overlap, NoZero}
-use Rattle.model.specs.Answers.{Said, an-address, a-number, a-length, a-refusal, Reply, numberOf, saidOf, answered}
+use Rattle.model.specs.Answers.{Said, an-address, a-number, a-length, a-refusal, Reply, numberOf, saidOf, answered, accepted, refused, stringAnswer}
+use Rattle.model.specs.Lists.{stringList}
+use Rattle.model.specs.Refusals.{checked, toEnd, zeroAt, noZero, startTable, stringTable}
 
 refusalOf : ℕ → Refusal
 refusalOf r =
@@ -45,3 +50,11 @@ answer-back a = ap {B = Answer} (λ (o : Outcome). record { outcome = o; counts 
 
 pub one-answer : (a b : Answer) → answered a ≡ answered b → a ≡ b
 one-answer a b e = sym (answer-back a) ∙ ap answerOf e ∙ answer-back b
+
+-- Refusals 1 and 2 have no counts in the string's table either.
+pub string-start : (W : ℕ) (ws : List ℕ) (s : ℕ) → stringAnswer W ws s
+    ≡ checked (startTable W (length ws) s) refused
+    (let xs = stringList s (toEnd W ws s) (zeroAt W ws s) in
+    cond (noZero W ws s .holds) (accepted (a-refusal 5) xs) (accepted (a-length (zeroAt W ws s)) xs))
+unfolding stringAnswer stringTable startTable checked
+string-start W ws s = refl

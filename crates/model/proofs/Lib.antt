@@ -6,9 +6,10 @@ pub mod MemoryLaws
 pub mod SpliceLaws
 pub mod WordLaws
 pub mod ShiftLaws
-pub mod RanLaws
 pub mod MeaningLaws
 pub mod RefusalLaws
+pub mod FirstLaws
+pub mod SignLaws
 pub mod AnswerLaws
 pub mod Widths
 pub mod Worked

@@ -4,9 +4,8 @@ pub mod Fit
 pub mod Tally
 pub mod Lists
 pub mod Perform
-pub mod Ran
-pub mod Asked
 pub mod Meaning
+pub mod Places
 pub mod Refusals
 pub mod Answers
 pub mod Promises

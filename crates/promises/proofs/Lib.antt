@@ -1,6 +1,3 @@
-pub mod Tests
-pub mod FillByte
-pub mod Kept
 pub mod Refused
 pub mod OneAnswer
 pub mod TwoRuns

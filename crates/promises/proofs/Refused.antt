@@ -18,7 +18,7 @@ use Rattle.model.specs.Refusals.{Line, checked, none, given, ruled, toEnd, zero
 use Rattle.model.specs.Tally.{total, loadOf, storeOf, tally}
 use Rattle.model.proofs.RefusalLaws.{checked-none, checked-given}
 use Rattle.model.proofs.TallyLaws.{total-append}
-use Rattle.promises.proofs.Kept.{string-start}
+use Rattle.model.proofs.AnswerLaws.{string-start}
 
 -- Refusal i, with all counts zero, and the words ws as found.
 abbrev pub Untouched : ℕ → List ℕ → Answer → List ℕ → Type 0

@@ -16,11 +16,11 @@ use Rattle.model.specs.Memory.{view}
 use Rattle.model.specs.Promises.{CopyPromise, MovePromise, FillPromise, ComparePromise, BcmpPromise, StringPromise}
 use Rattle.model.specs.Refusals.{Line, checked, toEnd, zeroAt, noZero, rangesTable, startTable}
 use Rattle.model.specs.Tally.{tally}
-use Rattle.model.proofs.AnswerLaws.{one-answer}
+use Rattle.model.proofs.AnswerLaws.{one-answer, string-start}
 use Rattle.model.proofs.RefusalLaws.{checked-map}
-use Rattle.lists.specs.Places.{FirstAt}
-use Rattle.lists.proofs.Firsts.{same-difference, same-place}
-use Rattle.promises.proofs.Kept.{string-start}
+use Rattle.model.specs.Places.{FirstAt}
+use Rattle.model.proofs.FirstLaws.{same-place}
+use Rattle.lists.proofs.Firsts.{same-difference}
 
 -- ---- copy, move, fill: the outcome and each of the eight counts are the same
 

@@ -11,12 +11,12 @@ use Rattle.model.specs.declared.Work.{Work}
 use Rattle.model.specs.Lists.{stringList}
 use Rattle.model.specs.Meaning.{isNull, strlen}
 use Rattle.model.specs.Memory.{view}
-use Rattle.model.specs.Ran.{Found}
+use Rattle.runs.specs.Ran.{Found}
 use Rattle.model.specs.Refusals.{toEnd, zeroAt}
 use Rattle.model.specs.Tally.{tally}
 use Rattle.model.proofs.MemoryLaws.{view-drop}
 use Rattle.words8.specs.Word.{W}
-use Rattle.lists.proofs.Passed.{Stopped, byteAt, string-counted, strlen-moved, string-moved}
+use Rattle.runs.proofs.Passed.{Stopped, byteAt, string-counted, strlen-moved, string-moved}
 use Rattle.scans8.specs.declared.Scan.{Scan}
 use Rattle.scans8.specs.declared.Scan.the-variants.{Length, NoZero}
 use Rattle.scans8.specs.Scans.{scanOf}

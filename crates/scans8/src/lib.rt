@@ -14,7 +14,7 @@ ghost use Rattle.model.specs.Lists.{compareList, stringList};
 ghost use Rattle.model.specs.Meaning.{memcmp, difference};
 ghost use Rattle.model.specs.Memory.{view};
 ghost use Rattle.model.specs.Refusals.{toEnd, zeroAt};
-ghost use Rattle.model.specs.Ran.{Found};
+ghost use Rattle.runs.specs.Ran.{Found};
 ghost use Rattle.words8.specs.Word.{W};
 ghost use Rattle.scans8.specs.Scans.{scanOf};
 

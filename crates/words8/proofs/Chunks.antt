@@ -15,10 +15,10 @@ use Rattle.model.specs.Access.{Access, load}
 use Rattle.model.specs.Fit.{Fit}
 use Rattle.model.specs.Lists.{made, chunks}
 use Rattle.model.specs.Memory.{readLE, view}
-use Rattle.model.specs.Ran.{Found}
+use Rattle.runs.specs.Ran.{Found}
 use Rattle.model.specs.Tally.{tally, joined}
 use Rattle.model.proofs.MemoryLaws.{view-lt}
-use Rattle.model.proofs.RanLaws.{counted-then}
+use Rattle.runs.proofs.RanLaws.{counted-then}
 use Rattle.model.proofs.ShiftLaws.{stacked}
 use Rattle.model.proofs.Widths.{allBelow, below}
 use Rattle.model.proofs.WordLaws.{width-some}

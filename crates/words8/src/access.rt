@@ -12,7 +12,7 @@ ghost use lib.ListN.{length};
 ghost use Rattle.model.specs.Access.{load, store};
 ghost use Rattle.model.specs.Fit.{Fit};
 ghost use Rattle.model.specs.Memory.{readLE, view};
-ghost use Rattle.model.specs.Ran.{Found, Stored};
+ghost use Rattle.runs.specs.Ran.{Found, Stored};
 ghost use Rattle.words8.specs.Word.{W};
 
 // A number that was loaded, and the record of the loads.

@@ -9,7 +9,7 @@ ghost use lib.ListN.{length};
 ghost use Rattle.model.specs.Access.{load, store};
 ghost use Rattle.model.specs.Fit.{Fit};
 ghost use Rattle.model.specs.Perform.{moving};
-ghost use Rattle.model.specs.Ran.{Ran};
+ghost use Rattle.runs.specs.Ran.{Ran};
 ghost use Rattle.words8.specs.Word.{W};
 
 // A word that was loaded, of which a part is still to be stored, and the record of the turn that loaded it.

@@ -11,7 +11,7 @@ ghost use Prim.Native.Nat.{_+_, _*_, _-_, _^_};
 ghost use lib.ListN.{length};
 ghost use Rattle.model.specs.Lists.{frontPartial, endPartial};
 ghost use Rattle.model.specs.Memory.{readLE, view};
-ghost use Rattle.model.specs.Ran.{Found};
+ghost use Rattle.runs.specs.Ran.{Found};
 ghost use Rattle.words8.specs.Word.{W};
 ghost use Rattle.words8.specs.Partials.{ChunkAsked, ChunkDone, PartOf};
 

@@ -6,10 +6,10 @@ use mathlib.Core.List.{[]}
 use native.Mathlib.Omega.{arith}
 use borrow.Author.Needs.{needs}
 use Rattle.model.specs.Perform.{moving}
-use Rattle.model.specs.Ran.{Anything}
-use Rattle.model.proofs.RanLaws.{ran-none}
+use Rattle.runs.specs.Ran.{Anything}
+use Rattle.runs.proofs.RanLaws.{ran-none}
 use Rattle.words8.specs.Word.{W}
-use Rattle.lists.proofs.Turns.{Turned, turned-none, turned-fits, copied-more, copied-joinable}
+use Rattle.runs.proofs.Turns.{Turned, turned-none, turned-fits, copied-more, copied-joinable}
 use Rattle.backward8.proofs.copy_backward_bytes.Statement.{statement}
 use Rattle.backward8.proofs.copy_backward_bytes.Tie as tie
 

@@ -7,8 +7,8 @@ use Prim.Native.Nat.{ℕ, _+_, _*_, _-_, _/_, _%_, _<_, _≤_}
 use native.Mathlib.Omega.{arith}
 use borrow.Author.Needs.{needs}
 use Rattle.words8.specs.Word.{W}
-use Rattle.lists.proofs.Straddled.{front-taken, taken-first}
-use Rattle.lists.proofs.Misaligned.{Turning, turning-none, turning-across, last-few, turning-joinable, turning-more, turning-last}
+use Rattle.runs.proofs.Straddled.{front-taken, taken-first}
+use Rattle.runs.proofs.Misaligned.{Turning, turning-none, turning-across, last-few, turning-joinable, turning-more, turning-last}
 use Rattle.words8.proofs.WordSize.{core}
 use Rattle.backward8.proofs.copy_backward_misaligned_words.Statement.{statement}
 use Rattle.backward8.proofs.copy_backward_misaligned_words.Tie as tie

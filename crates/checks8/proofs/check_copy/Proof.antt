@@ -5,8 +5,8 @@ use native.Mathlib.Omega.{arith}
 use Rattle.model.specs.Refusals.{copyTable}
 use Rattle.model.proofs.RefusalLaws.{line-given, line-passed, lines-passed, append-given, append-passed}
 use borrow.Author.Needs.{needs}
-use Rattle.promises.proofs.Kept.{ruled-by}
-use Rattle.promises.proofs.Tests.{overlap-near, overlap-apart}
+use Rattle.runs.proofs.Kept.{ruled-by}
+use Rattle.runs.proofs.Tests.{overlap-near, overlap-apart}
 use Rattle.checks8.proofs.check_copy.Statement.{statement}
 use Rattle.checks8.proofs.check_copy.Tie as tie
 

@@ -7,7 +7,7 @@ use borrow.Author.Needs.{needs}
 use Rattle.model.specs.Refusals.{none, ruled, rangesTable, fillTable}
 use Rattle.model.proofs.RefusalLaws.{append-given, append-passed, fill-accepted}
 use Rattle.words8.specs.Word.{W}
-use Rattle.promises.proofs.Kept.{ruled-by}
+use Rattle.runs.proofs.Kept.{ruled-by}
 use Rattle.checks8.proofs.check_ranges.Statement.{statement}
 use Rattle.checks8.proofs.check_ranges.Tie as tie
 use Rattle.checks8.proofs.check_ranges.Reads as reads

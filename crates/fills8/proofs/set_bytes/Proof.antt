@@ -6,7 +6,7 @@ use mathlib.Core.Logic.{⊎-elim}
 use native.Mathlib.Omega.{arith}
 use borrow.Author.Needs.{needs}
 use Rattle.words8.specs.Word.{W}
-use Rattle.lists.proofs.Phases.{parts, FillBegun, fill-short, fill-long, fill-phases-joinable, fill-done, fill-joinable}
+use Rattle.runs.proofs.Phases.{parts, FillBegun, fill-short, fill-long, fill-phases-joinable, fill-done, fill-joinable}
 use Rattle.words8.proofs.WordSize.{core}
 use Rattle.fills8.proofs.set_bytes.Statement.{statement}
 use Rattle.fills8.proofs.set_bytes.Tie as tie

@@ -4,9 +4,9 @@ use mathlib.Core.Path.{_≡_, refl}
 use Prim.Native.Nat.{_-_, _/_}
 use native.Mathlib.Omega.{arith}
 use borrow.Author.Needs.{needs}
-use Rattle.model.proofs.RanLaws.{ran-fill}
+use Rattle.runs.proofs.RanLaws.{ran-fill}
 use Rattle.words8.specs.Word.{W}
-use Rattle.lists.proofs.Turns.{FilledTo, filled-none, filled-more, filled-fit, filled-joinable}
+use Rattle.runs.proofs.Turns.{FilledTo, filled-none, filled-more, filled-fit, filled-joinable}
 use Rattle.fills8.proofs.set_bytes_words.Statement.{statement}
 use Rattle.fills8.proofs.set_bytes_words.Tie as tie
 

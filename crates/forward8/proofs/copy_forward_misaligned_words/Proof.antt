@@ -7,8 +7,8 @@ use Prim.Native.Nat.{_+_, _-_}
 use native.Mathlib.Omega.{arith}
 use borrow.Author.Needs.{needs}
 use Rattle.words8.specs.Word.{W}
-use Rattle.lists.proofs.Straddled.{end-taken, taken-first}
-use Rattle.lists.proofs.Misaligned.{Turning, turning-none, turning-across, last-few, turning-joinable, turning-more, turning-last}
+use Rattle.runs.proofs.Straddled.{end-taken, taken-first}
+use Rattle.runs.proofs.Misaligned.{Turning, turning-none, turning-across, last-few, turning-joinable, turning-more, turning-last}
 use Rattle.words8.proofs.WordSize.{core}
 use Rattle.forward8.proofs.copy_forward_misaligned_words.Statement.{statement}
 use Rattle.forward8.proofs.copy_forward_misaligned_words.Tie as tie

@@ -4,10 +4,10 @@ use mathlib.Core.Path.{refl}
 use mathlib.Core.Bool.{true}
 use native.Mathlib.Omega.{arith}
 use borrow.Author.Needs.{needs}
-use Rattle.model.proofs.RanLaws.{ran-weaker}
-use Rattle.lists.proofs.Asking.{across-fit}
+use Rattle.runs.proofs.RanLaws.{ran-weaker}
+use Rattle.runs.proofs.Asking.{across-fit}
 use Rattle.lists.proofs.Blocks.{aligned}
-use Rattle.lists.proofs.Straddled.{whole-taken, across, whole-pending}
+use Rattle.runs.proofs.Straddled.{whole-taken, across, whole-pending}
 use Rattle.forward8.proofs.copy_forward_next_word.Statement.{statement}
 use Rattle.forward8.proofs.copy_forward_next_word.Tie as tie
 

@@ -2,7 +2,7 @@
 -- Assumes nothing.
 use mir.Syntax.{w32}
 use mir.Val.{ofZ}
-use Rattle.promises.proofs.FillByte.{low-cast, low-value}
+use Rattle.runs.proofs.FillByte.{low-cast, low-value}
 use Rattle.mem8.proofs.fill_byte.Statement.{statement}
 use Rattle.mem8.proofs.fill_byte.Tie as tie
 

@@ -2,7 +2,7 @@
 -- neither.
 -- Assumes nothing.
 use native.Mathlib.Omega.{arith}
-use Rattle.promises.proofs.Tests.{upward-below, upward-clear, upward-not}
+use Rattle.runs.proofs.Tests.{upward-below, upward-clear, upward-not}
 use Rattle.mem8.proofs.forward.Statement.{statement}
 use Rattle.mem8.proofs.forward.Tie as tie
 

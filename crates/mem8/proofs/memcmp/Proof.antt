@@ -8,7 +8,7 @@ use mir.Syntax.{w32}
 use Rattle.model.specs.Answers.{a-number, replied}
 use Rattle.model.proofs.RefusalLaws.{ranges-accepted}
 use Rattle.words8.specs.Word.{W}
-use Rattle.promises.proofs.Kept.{ruled-by, compare-refused, compare-kept}
+use Rattle.runs.proofs.Kept.{ruled-by, compare-refused, compare-kept}
 use borrow.Author.Needs.{needs}
 use Rattle.mem8.proofs.memcmp.Statement.{statement}
 use Rattle.mem8.proofs.memcmp.Tie as tie

@@ -9,7 +9,7 @@ use Rattle.model.specs.Memory.{byteOf}
 use Rattle.model.specs.Refusals.{ruled, fillTable}
 use Rattle.model.proofs.RefusalLaws.{fill-accepted}
 use Rattle.words8.specs.Word.{W}
-use Rattle.promises.proofs.Kept.{ruled-by, fill-refused, fill-kept}
+use Rattle.runs.proofs.Kept.{ruled-by, fill-refused, fill-kept}
 use Rattle.words8.proofs.WordSize.{core}
 use borrow.Author.Needs.{needs}
 use Rattle.mem8.proofs.memset.Statement.{statement}

@@ -3,7 +3,7 @@
 use mathlib.Core.Path.{sym, _∙_}
 use mathlib.Core.Bool.{true, false}
 use borrow.Author.Needs.{needs}
-use Rattle.promises.proofs.Kept.{direction-taken}
+use Rattle.runs.proofs.Kept.{direction-taken}
 use Rattle.mem8.proofs.move_bytes.Statement.{statement}
 use Rattle.mem8.proofs.move_bytes.Tie as tie
 

@@ -10,7 +10,7 @@ use Rattle.model.specs.Answers.{rulingOf, a-length, a-refusal}
 use Rattle.model.specs.Refusals.{ruled, toEnd, zeroAt, fillTable, startTable}
 use Rattle.model.proofs.RefusalLaws.{string-accepted}
 use Rattle.words8.specs.Word.{W}
-use Rattle.promises.proofs.Kept.{ruled-by, start-range, string-refused, string-kept}
+use Rattle.runs.proofs.Kept.{ruled-by, start-range, string-refused, string-kept}
 use Rattle.scans8.specs.declared.Scan.the-variants.{Length, NoZero}
 use Rattle.scans8.specs.Scans.{scanOf}
 use Rattle.mem8.specs.Scanned.{scanSaid}

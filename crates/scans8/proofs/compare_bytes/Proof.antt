@@ -11,8 +11,8 @@ use Rattle.model.specs.Memory.{view}
 use Rattle.model.proofs.MemoryLaws.{view-lt}
 use Rattle.model.proofs.TallyLaws.{joinable}
 use Rattle.words8.specs.Word.{W}
-use Rattle.lists.proofs.Asking.{byte-fit}
-use Rattle.lists.proofs.Passed.{Passed, PairLoaded, passed-none, passed-joinable, pairAt, pair-loaded, pair-unequal, pair-equal, none-unequal}
+use Rattle.runs.proofs.Asking.{byte-fit}
+use Rattle.runs.proofs.Passed.{Passed, PairLoaded, passed-none, passed-joinable, pairAt, pair-loaded, pair-unequal, pair-equal, none-unequal}
 use Rattle.scans8.proofs.Differences.{differ-read}
 use Rattle.scans8.proofs.compare_bytes.Statement.{statement}
 use Rattle.scans8.proofs.compare_bytes.Tie as tie

@@ -7,8 +7,8 @@ use borrow.Author.Needs.{needs}
 use Rattle.model.specs.Meaning.{isNull}
 use Rattle.model.specs.Memory.{view}
 use Rattle.words8.specs.Word.{W}
-use Rattle.lists.proofs.Asking.{byte-fit}
-use Rattle.lists.proofs.Passed.{Passed, passed-none, passed-all, passed-joinable, byteAt, byte-more, zero-here}
+use Rattle.runs.proofs.Asking.{byte-fit}
+use Rattle.runs.proofs.Passed.{Passed, passed-none, passed-all, passed-joinable, byteAt, byte-more, zero-here}
 use Rattle.scans8.proofs.Scanning.{scan-found, scan-none}
 use Rattle.scans8.proofs.string_scan.Statement.{statement}
 use Rattle.scans8.proofs.string_scan.Tie as tie

@@ -5,7 +5,7 @@ use Prim.Native.Nat.{_-_, _≤_}
 use native.Mathlib.Omega.{arith}
 use Rattle.model.specs.Memory.{view}
 use Rattle.words8.specs.Word.{W}
-use Rattle.lists.proofs.Asking.{byte-fit}
+use Rattle.runs.proofs.Asking.{byte-fit}
 use Rattle.show.specs.Written.{Wrote}
 use Rattle.show.proofs.Writing.{wrote-size}
 use Rattle.lines.specs.Bytes.{hexText}

@@ -1,7 +1,7 @@
 -- `words8::chunk::copy_chunk`: a load, and the store of what it gave.
 -- Assumes nothing.
 use borrow.Author.Needs.{needs}
-use Rattle.model.proofs.RanLaws.{ran-pair}
+use Rattle.runs.proofs.RanLaws.{ran-pair}
 use Rattle.words8.proofs.chunk.copy_chunk.Statement.{statement}
 use Rattle.words8.proofs.chunk.copy_chunk.Tie as tie
 

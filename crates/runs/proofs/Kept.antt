@@ -20,14 +20,15 @@ use Rattle.model.specs.Meaning.{memcpy, memmove, memset, memcmp, difference, is
 use Rattle.model.specs.Memory.{byteOf, view, packed}
 use Rattle.model.specs.Perform.{State, perform, moving, filling}
 use Rattle.model.specs.Promises.{Promised, CopyPromise, MovePromise, FillPromise, ComparePromise, StringPromise}
-use Rattle.model.specs.Ran.{Ran, Found}
+use Rattle.runs.specs.Ran.{Ran, Found}
 use Rattle.model.specs.Refusals.{Line, Ruling, checked, none, given, ruled, toEnd, zeroAt, noZero, rangesTable, copyTable, fillTable, startTable, stringTable}
+use Rattle.model.proofs.AnswerLaws.{string-start}
 use Rattle.model.proofs.MemoryLaws.{packed-view}
 use Rattle.model.proofs.RefusalLaws.{checked-none, checked-given, copy-accepted}
 use Rattle.lists.specs.Sizes.{Core}
-use Rattle.lists.proofs.Firsts.{first-exists}
+use Rattle.model.proofs.FirstLaws.{first-exists}
 use Rattle.lists.proofs.Performed.{copy-performed, move-performed, fill-performed}
-use Rattle.promises.proofs.Tests.{start-outside}
+use Rattle.runs.proofs.Tests.{start-outside}
 
 -- What the checks were proved to find, at the verdict that they gave.
 pub ruled-by : {v u : Verdict} {x : Ruling} → rulingOf v ≡ x → v ≡ u → x ≡ rulingOf u
@@ -123,14 +124,6 @@ compare-kept W s1 s2 n e f a = record {
   answer = a ∙ ap₂ (λ (v : ℤ) (w : Work). replied (a-number v) w) (f .found) (f .counted) ∙ sym (checked-none _ _ _ e);
   memory = refl;
 }
-
--- Refusals 1 and 2 have no counts in the string's table either.
-pub string-start : (W : ℕ) (ws : List ℕ) (s : ℕ) → stringAnswer W ws s
-    ≡ checked (startTable W (length ws) s) refused
-    (let xs = stringList s (toEnd W ws s) (zeroAt W ws s) in
-    cond (noZero W ws s .holds) (accepted (a-refusal 5) xs) (accepted (a-length (zeroAt W ws s)) xs))
-unfolding stringAnswer stringTable startTable checked
-string-start W ws s = refl
 
 -- What is checked before a byte is read is what a fill of one byte checks.
 pub start-range : (W k s : ℕ) → ruled (fillTable W k s 1) ≡ ruled (startTable W k s)

@@ -11,9 +11,9 @@ use lib.Dec.{ltb}
 use lib.IntN.{ℤ, pos, negsuc, _-ℤ_}
 use lib.Signed.{ltZ}
 use borrow.Author.Tests.{ltb-true, lt-ltb, le-ltb}
 use Rattle.model.specs.Meaning.{memcmp, unequal, difference, differAt}
-use Rattle.lists.specs.Places.{FirstAt}
-use Rattle.lists.proofs.Firsts.{first-exists, first-unique}
+use Rattle.model.specs.Places.{FirstAt}
+use Rattle.model.proofs.FirstLaws.{first-exists, first-unique}
 
 at-place : (s1 s2 n p : ℕ) (f : ℕ → ℕ) → FirstAt (unequal s1 s2 f) n p → memcmp s1 s2 n f ≡ differAt s1 s2 n f p
 unfolding memcmp

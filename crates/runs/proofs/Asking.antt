@@ -5,11 +5,11 @@ use mathlib.Core.Bool.{Bool, true, false}
 use Prim.Native.Nat.{ℕ, _+_, _*_, _%_, _<_, _≤_}
 use native.Mathlib.Nat.{mod-one, mod-self}
 use native.Mathlib.Omega.{arith}
-use Rattle.model.specs.Asked.{Ahead, Both, Words, Across}
+use Rattle.runs.specs.Asked.{Ahead, Both, Words, Across}
 use Rattle.model.specs.Fit.{Range, Fit}
 use Rattle.model.specs.Lists.{cursor, chunk, past}
 use Rattle.lists.proofs.Blocks.{aligned}
 use Rattle.lists.proofs.Cursors.{Room, cursor-start}
 
 -- n bytes at a range's first address.
 pub ahead-start : {W k : ℕ} (up : Bool) (a n : ℕ) → Range W k a n → Ahead up W k (cursor up a n) n

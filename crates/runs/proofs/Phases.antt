@@ -11,20 +11,20 @@ use lib.ListN.{length, length-append}
 use borrow.Author.Tests.{lt-ltb, le-ltb, eq-eqb, ne-eqb}
 use Rattle.model.specs.declared.Work.{Work}
 use Rattle.model.specs.Access.{Access}
-use Rattle.model.specs.Asked.{Both}
+use Rattle.runs.specs.Asked.{Both}
 use Rattle.model.specs.Fit.{Range}
 use Rattle.model.specs.Lists.{cursor, past, pairs, misaligned, near, wholeWords, threshold, head, phases, run, along, stores, fillPhases, fillList}
 use Rattle.model.specs.Perform.{moving, filling}
-use Rattle.model.specs.Ran.{Ran}
+use Rattle.runs.specs.Ran.{Ran}
 use Rattle.model.specs.Tally.{tally, joined, Joinable}
-use Rattle.model.proofs.RanLaws.{ran-none, ran-then, ran-together, ran-joinable}
+use Rattle.runs.proofs.RanLaws.{ran-none, ran-then, ran-together, ran-joinable}
 use Rattle.model.proofs.TallyLaws.{joinable}
 use Rattle.lists.specs.Sizes.{Core}
-use Rattle.lists.proofs.Asking.{both-start, both-past}
+use Rattle.runs.proofs.Asking.{both-start, both-past}
 use Rattle.lists.proofs.Bounds.{whole-words-few, along-few, fill-few}
 use Rattle.lists.proofs.Lengths.{pairs-length, stores-length}
 use Rattle.lists.proofs.Cores.{core-some, split}
 use Rattle.lists.proofs.Cursors.{past-none, past-past}
 
 -- ---- the words
 

@@ -14,16 +14,16 @@ use Rattle.model.specs.Fit.{Aligned}
 use Rattle.model.specs.Lists.{chunk, past, frontPartial, endPartial, trail}
 use Rattle.model.specs.Memory.{byte, view, readLE, over, laid}
 use Rattle.model.specs.Perform.{State, perform, moving}
-use Rattle.model.specs.Ran.{Carried, Anything, Holds, Pending, Found, Stored}
+use Rattle.runs.specs.Ran.{Carried, Anything, Holds, Pending, Found, Stored}
 use Rattle.model.specs.Tally.{tally, joined, Joinable}
 use Rattle.model.proofs.ByteLaws.{byte-high, pow-256, readLE-byte}
 use Rattle.model.proofs.MemoryLaws.{over-in, over-below, over-above, over-cong, view-lt, view-word}
-use Rattle.model.proofs.RanLaws.{ran-then, ran-weaker}
+use Rattle.runs.proofs.RanLaws.{ran-then, ran-weaker}
 use Rattle.model.proofs.TallyLaws.{joinable}
 use Rattle.lists.specs.Sizes.{Core}
 use Rattle.lists.proofs.Blocks.{Block, resized, single, loads-performed}
 use Rattle.lists.proofs.Lengths.{trail-few}
 use Rattle.lists.proofs.Partial.{lead-block, trail-block}
 
 -- ---- what was loaded of a word
 

@@ -7,17 +7,17 @@ use Prim.Native.Nat.{ℕ, _+_, _-_, _^_, _<_, _≤_}
 use native.Mathlib.Numerals.{add-one}
 use native.Mathlib.Omega.{arith}
 use lib.ListN.{length}
 use Rattle.model.specs.declared.Work.{Work}
 use Rattle.model.specs.Access.{Access, load, store}
 use Rattle.model.specs.Memory.{byte, view, readLE, over, laid}
 use Rattle.model.specs.Lists.{upto}
 use Rattle.model.specs.Perform.{State, perform, moving, filling}
 use Rattle.model.specs.Tally.{tally, joined, Joinable}
-use Rattle.model.specs.Ran.{Carried, Ran, Stored, Found}
+use Rattle.runs.specs.Ran.{Carried, Ran, Stored, Found}
 use Rattle.model.proofs.ByteLaws.{readLE-byte}
 use Rattle.model.proofs.MemoryLaws.{over-in, over-cong, view-lt}
 use Rattle.model.proofs.PerformLaws.{perform-append}
 use Rattle.model.proofs.TallyLaws.{tally-append, joinable}
 
 -- A record of two lists in a row, from those of each.
 pub counted-then : {a b c : Work} (xs ys : List Access) → a ≡ tally xs → b ≡ tally ys → c ≡ joined a b

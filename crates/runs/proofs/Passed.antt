@@ -18,13 +18,13 @@ use Rattle.model.specs.Access.{Access, load}
 use Rattle.model.specs.Lists.{upto, compareList, stringList}
 use Rattle.model.specs.Meaning.{first, unequal, difference, differAt, memcmp, isNull, strlen}
 use Rattle.model.specs.Memory.{readLE}
-use Rattle.model.specs.Ran.{Found}
+use Rattle.runs.specs.Ran.{Found}
 use Rattle.model.specs.Tally.{total, tally, joined, Joinable}
 use Rattle.model.proofs.ByteLaws.{readLE-one}
-use Rattle.model.proofs.RanLaws.{counted-then}
+use Rattle.runs.proofs.RanLaws.{counted-then}
 use Rattle.model.proofs.TallyLaws.{tally-append, joinable}
-use Rattle.lists.proofs.Firsts.{first-exists, first-unique}
+use Rattle.model.proofs.FirstLaws.{first-exists, first-unique}
 use Rattle.lists.proofs.Lengths.{upto-length}
 
 -- i of n places are passed: the test t fails at each, and the accesses f of each are made.
 pub record Passed (t : ℕ → Bool) (f : ℕ → List Access) (n i : ℕ) (work : Work) : Type 0 where

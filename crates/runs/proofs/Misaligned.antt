@@ -8,15 +8,15 @@ use native.Mathlib.Omega.{arith}
 use lib.ListN.{length, length-append}
 use Rattle.model.specs.declared.Work.{Work}
 use Rattle.model.specs.Access.{Access, load, store}
-use Rattle.model.specs.Asked.{Ahead, Words, Across}
+use Rattle.runs.specs.Asked.{Ahead, Words, Across}
 use Rattle.model.specs.Lists.{chunk, past, near, pair, pairs, lead, trail, misaligned}
 use Rattle.model.specs.Perform.{moving}
-use Rattle.model.specs.Ran.{Carried, Ran, Anything, Pending}
+use Rattle.runs.specs.Ran.{Carried, Ran, Anything, Pending}
 use Rattle.model.specs.Tally.{joined, Joinable}
-use Rattle.model.proofs.RanLaws.{ran-then, ran-together}
-use Rattle.lists.proofs.Asking.{both-past}
+use Rattle.runs.proofs.RanLaws.{ran-then, ran-together}
+use Rattle.runs.proofs.Asking.{both-past}
 use Rattle.lists.proofs.Lengths.{lead-few, trail-few}
-use Rattle.lists.proofs.Turns.{Turned, turned-none, turned-more, turned-joinable}
+use Rattle.runs.proofs.Turns.{Turned, turned-none, turned-more, turned-joinable}
 
 -- The cursor of the word that comes after the one at b.
 abbrev pub beyond : Bool → ℕ → ℕ → ℕ

@@ -11,17 +11,17 @@ use native.Mathlib.Omega.{arith}
 use lib.ListN.{length, length-append}
 use Rattle.model.specs.declared.Work.{Work}
 use Rattle.model.specs.Access.{Access, store}
-use Rattle.model.specs.Asked.{Ahead, Both}
+use Rattle.runs.specs.Asked.{Ahead, Both}
 use Rattle.model.specs.Fit.{Range, Fit}
 use Rattle.model.specs.Lists.{upto, chunk, past, pair, pairs, stores}
 use Rattle.model.specs.Perform.{moving, filling}
-use Rattle.model.specs.Ran.{Carried, Ran, Anything}
+use Rattle.runs.specs.Ran.{Carried, Ran, Anything}
 use Rattle.model.specs.Tally.{tally, joined, Joinable}
-use Rattle.model.proofs.RanLaws.{ran-none, ran-together, ran-turn, ran-joinable}
+use Rattle.runs.proofs.RanLaws.{ran-none, ran-together, ran-turn, ran-joinable}
 use Rattle.lists.proofs.Cursors.{past-none, past-past, chunk-boundary}
 use Rattle.lists.proofs.Blocks.{aligned}
-use Rattle.lists.proofs.Asking.{ahead-room, both-past, ahead-fit}
+use Rattle.runs.proofs.Asking.{ahead-room, both-past, ahead-fit}
 use Rattle.lists.proofs.Lengths.{pairs-length, stores-length}
 
 one-more : (w t : ℕ) → w * (t + 1) ≡ w * t + w
 one-more w t = ap (λ (i : ℕ). w * i) (add-one t) ∙ mul-suc w t

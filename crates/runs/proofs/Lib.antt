@@ -1,0 +1,10 @@
+pub mod RanLaws
+pub mod Asking
+pub mod Turns
+pub mod Straddled
+pub mod Misaligned
+pub mod Phases
+pub mod Passed
+pub mod Tests
+pub mod FillByte
+pub mod Kept
