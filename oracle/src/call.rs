@@ -1,11 +1,17 @@
 //! The calls of document 01, when they are refused, and what they answer.
 
+use crate::access::Access;
+use crate::list;
 use std::fmt;
 
+/// How many bytes a word has.
+pub const WORD: u64 = 8;
 /// How many words the memory has, and the largest K of a call.
 pub const WORDS: u64 = 8_192;
 /// How many bytes the memory has.
 pub const BYTES: usize = 65_536;
+/// The largest room of a log: more than the longest list needs.
+pub const LARGEST_ROOM: u64 = 40_960;
 
 #[derive(Clone, Copy)]
 pub enum Routine {
@@ -22,6 +28,8 @@ pub struct Call {
     /// How many words are lent, at most `WORDS`: the text form has no call with more, so refusal 1 is not met here.
     pub k: u64,
     pub routine: Routine,
+    /// How many numbers the log that is lent has room for; none, where the call has no log.
+    pub room: Option<u64>,
 }
 
 #[derive(Clone, Copy, PartialEq, Eq)]
@@ -39,11 +47,30 @@ pub struct Counts(pub [u64; 8]);
 impl Call {
     /// How many bytes are lent: document 01's M.
     fn end(&self) -> u64 {
-        8 * self.k
+        WORD * self.k
     }
 
-    /// Document 01's table: the first line that holds.
+    /// Document 01's table, and behind it refusal 6 of a logged call: the first line that holds.
     pub fn refusal(&self, memory: &[u8; BYTES]) -> Option<u8> {
+        self.refusal_without_log(memory).or_else(|| self.log_too_short().then_some(6))
+    }
+
+    /// Refusal 6. Asked last, when the ranges are known to lie in the memory.
+    fn log_too_short(&self) -> bool {
+        self.room.is_some_and(|room| self.list().is_some_and(|list| room < list.len() as u64))
+    }
+
+    /// The list of a call whose ranges lie in the memory; none, where addresses and length alone do not make it.
+    pub fn list(&self) -> Option<Vec<Access>> {
+        match self.routine {
+            Routine::Copy { dest, src, n } => Some(list::of_copy(WORD, dest, src, n)),
+            Routine::Move { dest, src, n } => Some(list::of_move(WORD, dest, src, n)),
+            Routine::Fill { dest, n, .. } => Some(list::of_fill(WORD, dest, n)),
+            Routine::Compare { .. } | Routine::Bcmp { .. } | Routine::Strlen { .. } => None,
+        }
+    }
+
+    fn refusal_without_log(&self, memory: &[u8; BYTES]) -> Option<u8> {
         let leaves = |address: u64, n: u64| u128::from(address) + u128::from(n) > u128::from(self.end());
         match self.routine {
             Routine::Copy { dest, src, n } => {

@@ -1,10 +1,13 @@
 //! The meaning of the text form: a memory that lasts from line to line, and an answer for each line.
 
+use crate::access::{self, Access};
 use crate::call::{Call, Counts, Outcome};
 use crate::memory::Memory;
 use crate::text::{self, Command};
+use std::borrow::Cow;
 
 /// What a line must be answered.
+#[derive(Clone)]
 pub enum Answer {
     Call(Call, Outcome),
     Other(String),
@@ -55,17 +58,35 @@ impl Answer {
         matches!(self, Answer::Call(_, outcome) if !matches!(outcome, Outcome::Refusal(_)))
     }
 
-    /// Those of a refusal stand in document 01's table. Those of an accepted call only a trace of the Rust has.
-    fn counts(&self, traced: Option<Counts>) -> Option<Counts> {
+    /// The accesses of an accepted call: those that were traced, or else those of its list, where it has one.
+    fn accesses<'a>(&self, traced: Option<&'a [Access]>) -> Option<Cow<'a, [Access]>> {
         match self {
-            Answer::Call(call, Outcome::Refusal(number)) => Some(call.refused_counts(*number)),
-            _ => traced,
+            Answer::Call(call, _) if self.accepted() => {
+                traced.map(Cow::Borrowed).or_else(|| call.list().map(Cow::Owned))
+            }
+            _ => None,
         }
     }
 
-    /// Whether a line that `calls` wrote is this answer, its counts too where they are known. There may be more words behind
-    /// them.
-    pub fn is(&self, line: &str, traced: Option<Counts>) -> bool {
+    /// Those of a refusal stand in document 01's table. Those of an accepted call need its accesses.
+    fn counts(&self, accesses: Option<&[Access]>) -> Option<Counts> {
+        match self {
+            Answer::Call(call, Outcome::Refusal(number)) => Some(call.refused_counts(*number)),
+            _ => accesses.map(access::counts),
+        }
+    }
+
+    /// The log at the end of the answer to a logged call, in words.
+    fn log(&self, accesses: Option<&[Access]>) -> Option<String> {
+        match self {
+            Answer::Call(Call { room: Some(_), .. }, _) => Some(access::log(accesses.unwrap_or_default())),
+            _ => None,
+        }
+    }
+
+    /// Whether a line that `calls` wrote is this answer, its counts too where they are known, and its log to the last entry. There
+    /// may be more words behind the counts of a call without a log.
+    pub fn is(&self, line: &str, traced: Option<&[Access]>) -> bool {
         let outcome = match self {
             Answer::Other(answer) => return line == answer,
             Answer::Call(_, outcome) => outcome.to_string(),
@@ -74,16 +95,23 @@ impl Answer {
         let Some((found, rest)) = rest.and_then(Counts::read) else {
             return false;
         };
-        let same = self.counts(traced).is_none_or(|counts| counts == found);
-        same && (rest.is_empty() || rest.starts_with(' '))
+        let accesses = self.accesses(traced);
+        let same = self.counts(accesses.as_deref()).is_none_or(|counts| counts == found);
+        same && match self.log(accesses.as_deref()) {
+            Some(log) => rest == log,
+            None => rest.is_empty() || rest.starts_with(' '),
+        }
     }
 
     /// The answer in words, with the counts that are known.
-    pub fn words(&self, traced: Option<Counts>) -> String {
-        match (self, self.counts(traced)) {
-            (Answer::Other(answer), _) => answer.clone(),
-            (Answer::Call(_, outcome), Some(counts)) => format!("{outcome} {counts}"),
-            (Answer::Call(_, outcome), None) => outcome.to_string(),
-        }
+    pub fn words(&self, traced: Option<&[Access]>) -> String {
+        let outcome = match self {
+            Answer::Other(answer) => return answer.clone(),
+            Answer::Call(_, outcome) => outcome,
+        };
+        let accesses = self.accesses(traced);
+        let counts = self.counts(accesses.as_deref()).map_or(String::new(), |counts| format!(" {counts}"));
+        let log = self.log(accesses.as_deref()).unwrap_or_default();
+        format!("{outcome}{counts}{log}")
     }
 }

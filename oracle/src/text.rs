@@ -1,6 +1,6 @@
 //! The text form of docs/TEXT-FORM.md: what a line asks, or why it is a bad one.
 
-use crate::call::{Call, Routine, BYTES, WORDS};
+use crate::call::{Call, Routine, BYTES, LARGEST_ROOM, WORDS};
 
 const LONGEST_LINE: usize = 16_383;
 
@@ -9,6 +9,7 @@ const UNKNOWN_WORD: &str = "unknown word";
 const WRONG_FIELDS: &str = "wrong number of fields";
 const NO_NUMBER: &str = "no number or one too large";
 const MANY_WORDS: &str = "k above 8192";
+const LONG_LOG: &str = "a log above 40960 numbers";
 const ODD_HEX: &str = "an odd number of hex digits";
 const OUTSIDE: &str = "a byte outside the memory";
 
@@ -58,10 +59,19 @@ impl<'a, I: Iterator<Item = &'a [u8]>> Fields<I> {
             b"get" => Command::Get { address: self.number()?, count: self.number()? },
             b"clear" => Command::Clear,
             b"copy" | b"move" | b"fill" | b"compare" | b"bcmp" | b"strlen" => {
-                Command::Call(Call { k: self.words()?, routine: self.routine(word)? })
+                Command::Call(Call { k: self.words()?, routine: self.routine(word)?, room: None })
             }
+            b"copy-log" => self.logged(b"copy")?,
+            b"move-log" => self.logged(b"move")?,
+            b"fill-log" => self.logged(b"fill")?,
             _ => return Err(UNKNOWN_WORD),
         })
+    }
+
+    /// The call of this word, with the room of its log behind it.
+    fn logged(&mut self, word: &[u8]) -> Result<Command, Why> {
+        let (k, routine) = (self.words()?, self.routine(word)?);
+        Ok(Command::Call(Call { k, routine, room: Some(self.room()?) }))
     }
 
     fn routine(&mut self, word: &[u8]) -> Result<Routine, Why> {
@@ -85,6 +95,14 @@ impl<'a, I: Iterator<Item = &'a [u8]>> Fields<I> {
             return Err(MANY_WORDS);
         }
         Ok(k)
+    }
+
+    fn room(&mut self) -> Result<u64, Why> {
+        let room = self.number()?;
+        if room > LARGEST_ROOM {
+            return Err(LONG_LOG);
+        }
+        Ok(room)
     }
 
     fn number(&mut self) -> Result<u64, Why> {

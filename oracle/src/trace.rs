@@ -1,11 +1,11 @@
 //! The accesses that the Rust makes: the program `traced` is run under valgrind's lackey, which writes a line for each access of
 //! the machine, and those between the two marks of a call that meet the memory are kept.
 
-use crate::call::{Call, Counts, Outcome, Routine, BYTES};
+use crate::access::{Access, Kind};
+use crate::call::{Call, Outcome, Routine, BYTES};
 use crate::machine::{Answer, Machine};
 use crate::memory::{Places, GUARD};
 use crate::text;
-use std::fmt;
 use std::io::{BufRead, BufReader, Read, Write};
 use std::ops::Range;
 use std::path::Path;
@@ -13,47 +13,11 @@ use std::process::{Child, Command, Stdio};
 use std::sync::{Arc, OnceLock};
 use std::thread;
 
-#[derive(Clone, Copy, PartialEq, Eq)]
-pub enum Kind {
-    Load,
-    Store,
-}
-
-#[derive(Clone, Copy)]
-pub struct Access {
-    pub kind: Kind,
-    pub width: u64,
-    pub address: u64,
-}
-
 /// A line of an input with its answer. The accesses are those of an accepted call.
 pub struct Traced<'a> {
     pub line: &'a [u8],
     pub answer: Option<Answer>,
     pub accesses: Option<Vec<Access>>,
-}
-
-impl fmt::Display for Access {
-    fn fmt(&self, f: &mut fmt::Formatter) -> fmt::Result {
-        let kind = match self.kind {
-            Kind::Load => 'L',
-            Kind::Store => 'S',
-        };
-        write!(f, "{kind}{}@{}", self.width, self.address)
-    }
-}
-
-impl Traced<'_> {
-    pub fn counts(&self) -> Option<Counts> {
-        self.accesses.as_ref().map(|accesses| {
-            let mut counts = Counts::default();
-            for access in accesses {
-                let stores = if access.kind == Kind::Store { 4 } else { 0 };
-                counts.0[stores + access.width.ilog2() as usize] += 1;
-            }
-            counts
-        })
-    }
 }
 
 /// Answers an input, and has the Rust traced on it.

@@ -9,7 +9,7 @@ use lib.ListN.{length, take, drop, replicate}
 use Rattle.bytes.specs.Bytes.{indexOf, slice}
 use Rattle.commands.specs.Commands.{commandOf}
 use Rattle.lines.specs.Lines.{answerOf, LeftBy}
-use Rattle.commands.specs.Sizes.{mostLine}
+use Rattle.commands.specs.Sizes.{mostLine, mostRoom}
 use Rattle.lines.specs.Sizes.{memoryWords, longestAnswer}
 use Rattle.calls.specs.Sizes.{mostOutput, mostInput}
 use Rattle.calls.specs.declared.Place.{Place}
@@ -25,9 +25,10 @@ pub record Sound (stream : Stream) : Type 0 where
   pub input : stream .end ≤ mostInput
   pub output : stream .written ≤ mostOutput
 
--- What a turn is lent: the memory, the input and the output have their sizes, and one line more can be counted.
-pub record Lent (ws input out : List ℕ) (stream : Stream) : Type 0 where
+-- What a turn is lent: the memory, the log, the input and the output have their sizes, and one line more can be counted.
+pub record Lent (ws log input out : List ℕ) (stream : Stream) : Type 0 where
   pub memory : length ws ≡ memoryWords
+  pub logs : length log ≡ mostRoom
   pub inputs : length input ≡ mostInput
   pub outputs : length out ≡ mostOutput
   pub sound : Sound stream

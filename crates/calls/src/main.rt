@@ -2,6 +2,7 @@
 // `lines`; here lines are cut out of the input as it streams in, and answers are gathered before they are printed.
 use bytes::scan::find;
 use commands::MOST_LINE;
+use commands::MOST_ROOM;
 use libc::STDERR_FILENO;
 use libc::STDIN_FILENO;
 use libc::STDOUT_FILENO;
@@ -13,6 +14,7 @@ ghost use mathlib.Core.Path.{_≡_};
 ghost use Prim.Native.Nat.{_-_, _≤_};
 ghost use lib.ListN.{length, take};
 ghost use Rattle.bytes.specs.Bytes.{slice};
+ghost use Rattle.commands.specs.Sizes.{mostRoom};
 ghost use Rattle.calls.specs.Sizes.{mostOutput, mostInput};
 ghost use Rattle.calls.specs.Streams.{zeros, Sound, Lent, between, Roomy, Took, Joined, OneTurn, Ended};
 
@@ -46,6 +48,13 @@ fn memory() -> [Word; MEMORY_WORDS]
     ensures { λ r. ⌜ r ≡ zeros ⌝ }
 {
     [0; MEMORY_WORDS]
+}
+
+// For the calls with a log. A log is a part of it.
+fn log() -> [u32; MOST_ROOM]
+    ensures { λ r. ⌜ length r ≡ mostRoom ⌝ }
+{
+    [0; MOST_ROOM]
 }
 
 fn output() -> [u8; MOST_OUTPUT]
@@ -86,6 +95,7 @@ fn make_room(output: &[u8], written: usize) -> Place
 // it is passed over if `skipping`.
 fn take_line(
     mem: &mut [Word],
+    log: &mut [u32],
     input: &[u8],
     end: usize,
     next: usize,
@@ -93,14 +103,14 @@ fn take_line(
     output: &mut [u8],
     stream: Stream,
 ) -> Stream
-    requires { ⌜ (Lent (now mem) (now input) (now output) stream) × (stream .start ≤ end) × (end ≤ next) × (next ≤ stream .end) ⌝ }
+    requires { ⌜ (Lent (now mem) (now log) (now input) (now output) stream) × (stream .start ≤ end) × (end ≤ next) × (next ≤ stream .end) ⌝ }
     ensures { λ r. ⌜ (Took (between (stream .start) end (now (input .entry))) next stream (now (mem .entry)) (now (mem .exit))
         (now (output .entry)) (now (output .exit)) r) × (r .skipping ≡ skipping) ⌝ }
 {
     let start = stream.start;
     let number = stream.number + 1;
     let place = make_room(output, stream.written);
-    let written = answer_line(mem, &input[start..end], number, output, place.at);
+    let written = answer_line(mem, log, &input[start..end], number, output, place.at);
     Stream {
         start: next,
         end: stream.end,
@@ -162,8 +172,14 @@ fn read_on(input: &mut [u8], output: &[u8], stream: Stream) -> Stream
 
 // One turn: a line, or what comes next of the input. Without a newline, a line that is too long is answered by what there is of it, and the
 // rest of it is passed over.
-fn turn(mem: &mut [Word], input: &mut [u8], output: &mut [u8], mut stream: Stream) -> Stream
-    requires { ⌜ Lent (now mem) (now input) (now output) stream ⌝ }
+fn turn(
+    mem: &mut [Word],
+    log: &mut [u32],
+    input: &mut [u8],
+    output: &mut [u8],
+    mut stream: Stream,
+) -> Stream
+    requires { ⌜ Lent (now mem) (now log) (now input) (now output) stream ⌝ }
     ensures { λ r. ⌜ OneTurn stream (now (input .entry)) (now (input .exit)) (now (mem .entry)) (now (mem .exit))
         (now (output .entry)) (now (output .exit)) r ⌝ }
 {
@@ -179,17 +195,23 @@ fn turn(mem: &mut [Word], input: &mut [u8], output: &mut [u8], mut stream: Strea
         return stream;
     }
     if newline < end {
-        return take_line(mem, input, newline, newline + 1, false, output, stream);
+        return take_line(mem, log, input, newline, newline + 1, false, output, stream);
     }
     if end - stream.start <= MOST_LINE {
         return read_on(input, output, stream);
     }
-    take_line(mem, input, end, end, true, output, stream)
+    take_line(mem, log, input, end, end, true, output, stream)
 }
 
 // The input has ended: a last line without a newline is answered too, unless something failed.
-fn last_line(mem: &mut [Word], input: &[u8], output: &mut [u8], stream: Stream) -> Stream
-    requires { ⌜ Lent (now mem) (now input) (now output) stream ⌝ }
+fn last_line(
+    mem: &mut [Word],
+    log: &mut [u32],
+    input: &[u8],
+    output: &mut [u8],
+    stream: Stream,
+) -> Stream
+    requires { ⌜ Lent (now mem) (now log) (now input) (now output) stream ⌝ }
     ensures { λ r. ⌜ Ended stream (now (input .entry)) (now (mem .entry)) (now (mem .exit))
         (now (output .entry)) (now (output .exit)) r ⌝ }
 {
@@ -197,7 +219,7 @@ fn last_line(mem: &mut [Word], input: &[u8], output: &mut [u8], stream: Stream) 
     if stream.failed || stream.skipping || stream.start == end {
         return stream;
     }
-    take_line(mem, input, end, end, false, output, stream)
+    take_line(mem, log, input, end, end, false, output, stream)
 }
 
 // Prints what waits, unless something failed.
@@ -211,8 +233,8 @@ fn finish(output: &[u8], stream: Stream)
 
 // Answers all the input, from a memory that is all zero. A proved loop has to end, and nothing says that the input does. So the turns are
 // counted down, from a number that no run uses up.
-fn run(mem: &mut [Word], input: &mut [u8], output: &mut [u8])
-    requires { ⌜ (now mem ≡ zeros) × (length (now input) ≡ mostInput) × (length (now output) ≡ mostOutput) ⌝ }
+fn run(mem: &mut [Word], log: &mut [u32], input: &mut [u8], output: &mut [u8])
+    requires { ⌜ (now mem ≡ zeros) × (length (now input) ≡ mostInput) × (length (now output) ≡ mostOutput) × (length (now log) ≡ mostRoom) ⌝ }
 {
     let mut stream = Stream {
         start: 0,
@@ -225,16 +247,17 @@ fn run(mem: &mut [Word], input: &mut [u8], output: &mut [u8])
     };
     let mut turns = u64::MAX - 1;
     while turns > 0 && stream.more && !stream.failed {
-        stream = turn(mem, input, output, stream);
+        stream = turn(mem, log, input, output, stream);
         turns -= 1;
     }
-    let last = last_line(mem, input, output, stream);
+    let last = last_line(mem, log, input, output, stream);
     finish(output, last);
 }
 
 fn main() {
     let mut mem = memory();
+    let mut log = log();
     let mut input = io::large_buffer();
     let mut output = output();
-    run(&mut mem, &mut input, &mut output);
+    run(&mut mem, &mut log, &mut input, &mut output);
 }

@@ -14,12 +14,12 @@ use Rattle.commands.specs.declared.Command.the-variants.{Put, Get, Bad}
 use Rattle.commands.specs.declared.Operand.{Operand}
 use Rattle.commands.specs.declared.Operand.the-variants.{Is, Not}
 use Rattle.commands.specs.declared.Why.{Why}
-use Rattle.commands.specs.declared.Why.the-variants.{WrongFields, TooManyWords, OddDigits, NoNumber}
+use Rattle.commands.specs.declared.Why.the-variants.{WrongFields, TooManyWords, TooMuchRoom, OddDigits, NoNumber}
 use Rattle.texts.specs.Digits.{allDigits}
 use Rattle.commands.specs.Fields.{fieldOf, after, afterFields, isEmpty}
 use Rattle.commands.specs.Fine.{Fine}
-use Rattle.commands.specs.Sizes.{memoryBytes}
-use Rattle.commands.specs.Commands.{numberField, fewWords, wordsField, hexField, operandOf, Reading, numbers, wrong, with-number, reading, readFrom, Row, choose, within, inside, rows, made, readBy, lookUp, commandOf}
+use Rattle.commands.specs.Sizes.{memoryBytes, mostRoom}
+use Rattle.commands.specs.Commands.{numberField, atMost, limitedField, hexField, operandOf, Reading, numbers, wrong, with-number, reading, readFrom, Row, choose, within, inside, rows, made, readBy, lookUp, commandOf}
 
 -- The same, as a type that says which command it is of.
 record FineIn (most : ℕ) (s : List ℕ) (command : Command) : Type 0 where
@@ -31,18 +31,19 @@ bad = record { fine = tt }
 -- What a field's number may be relied on for, by its kind.
 record Good (most kind : ℕ) (t : List ℕ) (v : ℕ) : Type 0 where
   words : kind ≡ 107 → v ≤ most
+  room : kind ≡ 114 → v ≤ mostRoom
   hex : kind ≡ 104 → (length t ≡ 2 * v) × (allDigits t ≡ true)
 
 no-field : {why : Why} {v : ℕ} → Not why ≡ Is v → ⊥
 no-field e = let z : _≡_ {A = ℕ} 0 1 = cc in omega arith
 
-few-words : (most v : ℕ) (o : Operand) → fewWords most o ≡ Is v → v ≤ most
-few-words most v (Is k) e = go (ltb most k) refl e
+at-most : (many : Why) (most v : ℕ) (o : Operand) → atMost many most o ≡ Is v → v ≤ most
+at-most many most v (Is n) e = go (ltb most n) refl e
   where
-    go : (t : Bool) → ltb most k ≡ t → cond t (Not TooManyWords) (Is k) ≡ Is v → v ≤ most
-    go true many e' = absurd (no-field e')
-    go false few e' = let same : k ≡ v = cc in omega (arith, ltb-false most k few)
-few-words most v (Not why) e = absurd (no-field e)
+    go : (t : Bool) → ltb most n ≡ t → cond t (Not many) (Is n) ≡ Is v → v ≤ most
+    go true above e' = absurd (no-field e')
+    go false few e' = let same : n ≡ v = cc in omega (arith, ltb-false most n few)
+at-most many most v (Not why) e = absurd (no-field e)
 
 hex-digits : (t : List ℕ) (v : ℕ) → hexField t ≡ Is v → (length t ≡ 2 * v) × (allDigits t ≡ true)
 unfolding hexField
@@ -57,10 +58,11 @@ hex-digits t v e = go (eqb (length t % 2) 1) (allDigits t) refl refl e
     go false false odd' is e' = absurd (no-field e')
 
 good-field : (most kind : ℕ) (t : List ℕ) (v : ℕ) → operandOf most kind t ≡ Is v → Good most kind t v
-unfolding operandOf wordsField
+unfolding operandOf limitedField
 good-field most kind [] v e = absurd (no-field e)
 good-field most kind (b ∷ t) v e = record {
-  words = λ k. few-words most v (numberField (b ∷ t)) (rw (eq-eqb kind 107 k) at e);
+  words = λ k. at-most TooManyWords most v (numberField (b ∷ t)) (rw (eq-eqb kind 107 k) at e);
+  room = λ r. at-most TooMuchRoom mostRoom v (numberField (b ∷ t)) (rw r at e);
   hex = λ h. hex-digits (b ∷ t) v (rw h at e);
 }
 
@@ -149,10 +151,13 @@ module _ (most : ℕ) where
         (also (λ n good. record { fine = good .0 .words refl })
         (also (λ n good. record { fine = good .0 .words refl })
         (also (λ n good. record { fine = good .0 .words refl })
+        (also (λ n good. record { fine = (good .0 .words refl, good .1 .1 .1 .1 .0 .room refl) })
+        (also (λ n good. record { fine = (good .0 .words refl, good .1 .1 .1 .1 .0 .room refl) })
+        (also (λ n good. record { fine = (good .0 .words refl, good .1 .1 .1 .1 .0 .room refl) })
         (also put-fine
         (also (λ n good. fine-inside (n 0) (n 1) (Get (n 0) (n 1)) (λ in'. record { fine = in' }))
         (also (λ n good. record { fine = tt })
-        none))))))))
+        none)))))))))))
 
     fine-line : FineIn most s (commandOf most s)
     unfolding commandOf

@@ -13,12 +13,12 @@ use Rattle.texts.proofs.Fronts.{left, part-all}
 use Rattle.commands.specs.declared.Operand.{Operand}
 use Rattle.commands.specs.declared.Operand.the-variants.{Is, Not}
 use Rattle.commands.specs.declared.Why.{Why}
-use Rattle.commands.specs.declared.Why.the-variants.{WrongFields}
+use Rattle.commands.specs.declared.Why.the-variants.{WrongFields, TooManyWords, TooMuchRoom}
 use Rattle.commands.specs.Fields.{fieldOf, after, isEmpty, Spans}
-use Rattle.commands.specs.Sizes.{mostFields}
+use Rattle.commands.specs.Sizes.{mostRoom, mostFields}
 use Rattle.commands.specs.declared.fields.Span.{Span}
 use Rattle.commands.proofs.Reading.{empty-here}
-use Rattle.commands.specs.Commands.{numberField, wordsField, valueField, hexField, operandOf, numbers, wrong, with-number, reading, readFrom}
+use Rattle.commands.specs.Commands.{numberField, limitedField, valueField, hexField, operandOf, numbers, wrong, with-number, reading, readFrom}
 use Rattle.commands.specs.Tables.{listed}
 
 -- A number that is stored is the number of its field.
@@ -36,10 +36,17 @@ module _ (most kind : ℕ) where
   operand-none [] none = refl
   operand-none (b ∷ t) none = absurd (omega arith)
 
-  pub operand-words : (t : List ℕ) (r : Operand) → (length t ≡ 0 → ⊥) → kind ≡ 107 → r ≡ wordsField most t → r ≡ operandOf most kind t
+  pub operand-words : (t : List ℕ) (r : Operand) → (length t ≡ 0 → ⊥) → kind ≡ 107 → r ≡ limitedField TooManyWords most t
+      → r ≡ operandOf most kind t
   unfolding operandOf
   operand-words [] r some k is = absurd (some refl)
   operand-words (b ∷ t) r some k is = rw (eq-eqb kind 107 k) is
+
+  pub operand-room : (t : List ℕ) (r : Operand) → (length t ≡ 0 → ⊥) → kind ≡ 114 → r ≡ limitedField TooMuchRoom mostRoom t
+      → r ≡ operandOf most kind t
+  unfolding operandOf
+  operand-room [] r some room is = absurd (some refl)
+  operand-room (b ∷ t) r some room is = rw room is
 
   pub operand-value : (t : List ℕ) (r : Operand) → (length t ≡ 0 → ⊥) → kind ≡ 118 → r ≡ valueField t → r ≡ operandOf most kind t
   unfolding operandOf
@@ -51,11 +58,12 @@ module _ (most kind : ℕ) where
   operand-hex [] r some h is = absurd (some refl)
   operand-hex (b ∷ t) r some h is = rw h is
 
-  pub operand-number : (t : List ℕ) (r : Operand) → (length t ≡ 0 → ⊥) → (kind ≡ 107 → ⊥) → (kind ≡ 118 → ⊥) → (kind ≡ 104 → ⊥)
-      → r ≡ numberField t → r ≡ operandOf most kind t
+  pub operand-number : (t : List ℕ) (r : Operand) → (length t ≡ 0 → ⊥) → (kind ≡ 107 → ⊥) → (kind ≡ 114 → ⊥) → (kind ≡ 118 → ⊥)
+      → (kind ≡ 104 → ⊥) → r ≡ numberField t → r ≡ operandOf most kind t
   unfolding operandOf
-  operand-number [] r some k v h is = absurd (some refl)
-  operand-number (b ∷ t) r some k v h is = rw (ne-eqb kind 107 k, ne-eqb kind 118 v, ne-eqb kind 104 h) is
+  operand-number [] r some k room v h is = absurd (some refl)
+  operand-number (b ∷ t) r some k room v h is =
+      rw (ne-eqb kind 107 k, ne-eqb kind 114 room, ne-eqb kind 118 v, ne-eqb kind 104 h) is
 
 -- The fields of s are read as the rest of them is, from field i on, with the numbers of those before it listed.
 pub record ReadTo (most : ℕ) (s kinds ns₀ rest : List ℕ) (i : ℕ) (ns : List ℕ) : Type 0 where

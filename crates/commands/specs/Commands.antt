@@ -12,11 +12,11 @@ use lib.ListN.{length}
 use Rattle.texts.specs.Codes.{codes}
 use Rattle.texts.specs.Texts.{isText}
 use Rattle.commands.specs.declared.Why.{Why}
-use Rattle.commands.specs.declared.Why.the-variants.{TooLong, UnknownWord, WrongFields, NoNumber, TooManyWords, OddDigits, OutsideMemory}
+use Rattle.commands.specs.declared.Why.the-variants.{TooLong, UnknownWord, WrongFields, NoNumber, TooManyWords, TooMuchRoom, OddDigits, OutsideMemory}
 use Rattle.commands.specs.declared.Call.{Call}
 use Rattle.commands.specs.declared.Call.the-variants.{Copy, Move, Compare, Bcmp}
 use Rattle.commands.specs.declared.Command.{Command}
-use Rattle.commands.specs.declared.Command.the-variants.{Nothing, Ranges, Fill, Strlen, Put, Get, Clear, Bad}
+use Rattle.commands.specs.declared.Command.the-variants.{Nothing, Ranges, Fill, Strlen, CopyLog, MoveLog, FillLog, Put, Get, Clear, Bad}
 use Rattle.commands.specs.declared.Operand.{Operand}
 use Rattle.commands.specs.declared.Operand.the-variants.{Is, Not}
 use Rattle.texts.specs.declared.numbers.Number.{Number}
@@ -26,7 +26,7 @@ use Rattle.texts.specs.declared.numbers.Value.the-variants.{Of as OfValue, None
 use Rattle.texts.specs.Digits.{allDigits}
 use Rattle.commands.specs.Fields.{fieldOf, after, fieldAt, isEmpty}
 use Rattle.texts.specs.Numbers.{numberOf, valueOf}
-use Rattle.commands.specs.Sizes.{mostLine, memoryBytes}
+use Rattle.commands.specs.Sizes.{mostLine, memoryBytes, mostRoom}
 
 -- `n`: a number.
 abbrev pub given : Number → Operand
@@ -36,13 +36,13 @@ given None = Not NoNumber
 unfoldable pub numberField : List ℕ → Operand
 numberField t = given (numberOf t)
 
--- `k`: how many words are lent, at most all of them.
-abbrev pub fewWords : ℕ → Operand → Operand
-fewWords most (Is k) = cond (ltb most k) (Not TooManyWords) (Is k)
-fewWords most (Not why) = Not why
+-- `k`: how many words are lent, at most all of them. `r`: the numbers of a log, at most `mostRoom`. Each has a reason for more.
+abbrev pub atMost : Why → ℕ → Operand → Operand
+atMost many most (Is n) = cond (ltb most n) (Not many) (Is n)
+atMost many most (Not why) = Not why
 
-unfoldable pub wordsField : ℕ → List ℕ → Operand
-wordsField most t = fewWords most (numberField t)
+unfoldable pub limitedField : Why → ℕ → List ℕ → Operand
+limitedField many most t = atMost many most (numberField t)
 
 -- `v`: a signed value, which the command takes from the line (`valueAt`).
 abbrev pub good : Value → Operand
@@ -60,10 +60,11 @@ hexField t = cond (eqb (length t % 2) 1) (Not OddDigits) (cond (allDigits t) (Is
 unfoldable pub operandOf : ℕ → ℕ → List ℕ → Operand
 operandOf most kind t =
     cond (isEmpty t) (Not WrongFields)
-    (cond (eqb kind (code "k")) (wordsField most t)
+    (cond (eqb kind (code "k")) (limitedField TooManyWords most t)
+    (cond (eqb kind (code "r")) (limitedField TooMuchRoom mostRoom t)
     (cond (eqb kind (code "v")) (valueField t)
     (cond (eqb kind (code "h")) (hexField t)
-    (numberField t))))
+    (numberField t)))))
 
 -- What the fields of a line are: each one's number, or the first thing wrong.
 pub data Reading : Type 0 where
@@ -124,6 +125,9 @@ rows s =
     ∷ row "compare" "knnn" (ranges Compare)
     ∷ row "bcmp" "knnn" (ranges Bcmp)
     ∷ row "strlen" "kn" (λ n. Strlen (n 0) (n 1))
+    ∷ row "copy-log" "knnnr" (λ n. CopyLog (n 0) (n 1) (n 2) (n 3) (n 4))
+    ∷ row "move-log" "knnnr" (λ n. MoveLog (n 0) (n 1) (n 2) (n 3) (n 4))
+    ∷ row "fill-log" "knvnr" (λ n. FillLog (n 0) (n 1) (valueAt s 3) (n 3) (n 4))
     ∷ row "put" "nh" (λ n. inside (n 0) (n 1) (Put (n 0) (n 1)))
     ∷ row "get" "nn" (λ n. inside (n 0) (n 1) (Get (n 0) (n 1)))
     ∷ row "clear" "" (λ n. Clear)

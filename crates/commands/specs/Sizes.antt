@@ -10,9 +10,13 @@ mostLine = 16383
 abbrev pub memoryBytes : ℕ
 memoryBytes = 65536
 
+-- The most numbers of a log.
+abbrev pub mostRoom : ℕ
+mostRoom = 40960
+
 -- The most fields of a command, its word apart, and the number of commands.
 abbrev pub mostFields : ℕ
-mostFields = 4
+mostFields = 5
 
 abbrev pub rowCount : ℕ
-rowCount = 9
+rowCount = 12

@@ -11,10 +11,10 @@ use Rattle.commands.specs.declared.Found.the-variants.{Good, Wrong}
 use Rattle.commands.specs.Commands.{Reading, numbers, wrong, Row, row, rows}
 
 abbrev pub wordTable : List ℕ
-wordTable = codes "copy;move;fill;compare;bcmp;strlen;put;get;clear;"
+wordTable = codes "copy;move;fill;compare;bcmp;strlen;copy-log;move-log;fill-log;put;get;clear;"
 
 abbrev pub kindTable : List ℕ
-kindTable = codes "knnn;knnn;knvn;knnn;knnn;kn;nh;nn;;"
+kindTable = codes "knnn;knnn;knvn;knnn;knnn;kn;knnnr;knnnr;knvnr;nh;nn;;"
 
 -- The numbers that stand in a list.
 abbrev pub listed : List ℕ → ℕ → ℕ

@@ -16,7 +16,7 @@ ghost use Prim.Native.Nat.{_<_, _≤_};
 ghost use lib.ListN.{length};
 ghost use Rattle.texts.specs.Texts.{numberIn};
 ghost use Rattle.commands.specs.Fields.{fieldEnd};
-ghost use Rattle.commands.specs.Commands.{numberField, wordsField, valueField, hexField, operandOf, readFrom, within, inside, valueAt, readBy, commandOf};
+ghost use Rattle.commands.specs.Commands.{numberField, limitedField, valueField, hexField, operandOf, readFrom, within, inside, valueAt, readBy, commandOf};
 ghost use Rattle.commands.specs.Sizes.{mostFields, rowCount};
 ghost use Rattle.commands.specs.Tables.{wordTable, listed, reported, rowAt};
 
@@ -26,11 +26,14 @@ pub const MOST_LINE: usize = 16383;
 // The bytes of the memory.
 const MEMORY_BYTES: usize = 65536;
 
+// The most numbers of a log.
+pub const MOST_ROOM: usize = 40960;
+
 // The most fields of a command, its word apart.
-const MOST_FIELDS: usize = 4;
+const MOST_FIELDS: usize = 5;
 
 // The number of commands.
-const ROWS: usize = 9;
+const ROWS: usize = 12;
 
 // Why a line is bad.
 pub enum Why {
@@ -39,6 +42,7 @@ pub enum Why {
     WrongFields,
     NoNumber,
     TooManyWords,
+    TooMuchRoom,
     OddDigits,
     OutsideMemory,
 }
@@ -60,6 +64,10 @@ pub enum Command {
     Fill(usize, usize, i32, usize),
     // How many words are lent, and the start.
     Strlen(usize, usize),
+    // As `Ranges` and `Fill`, and the numbers that are lent for a log.
+    CopyLog(usize, usize, usize, usize, usize),
+    MoveLog(usize, usize, usize, usize, usize),
+    FillLog(usize, usize, i32, usize, usize),
     // The address, and how many bytes. Their digits stand in the line.
     Put(usize, usize),
     // The address, and how many bytes.
@@ -89,15 +97,16 @@ fn number_field(text: &[u8]) -> Operand
     }
 }
 
-fn words_field(text: &[u8], most: usize) -> Operand
-    ensures { λ r. ⌜ r ≡ wordsField most (now (text .entry)) ⌝ }
+// A number of at most so many; there is a reason for more.
+fn limited_field(text: &[u8], most: usize, many: Why) -> Operand
+    ensures { λ r. ⌜ r ≡ limitedField many most (now (text .entry)) ⌝ }
 {
     match number_field(text) {
-        Operand::Is(k) => {
-            if k > most {
-                return Operand::Not(Why::TooManyWords);
+        Operand::Is(n) => {
+            if n > most {
+                return Operand::Not(many);
             }
-            Operand::Is(k)
+            Operand::Is(n)
         }
         Operand::Not(why) => Operand::Not(why),
     }
@@ -132,7 +141,8 @@ fn operand_of(text: &[u8], kind: u8, most: usize) -> Operand
         return Operand::Not(Why::WrongFields);
     }
     match kind {
-        b'k' => words_field(text, most),
+        b'k' => limited_field(text, most, Why::TooManyWords),
+        b'r' => limited_field(text, MOST_ROOM, Why::TooMuchRoom),
         b'v' => value_field(text),
         b'h' => hex_field(text),
         _ => number_field(text),
@@ -205,6 +215,7 @@ fn say(line: &[u8], row: usize, numbers: &[usize; MOST_FIELDS]) -> Command
     let b = numbers[1];
     let c = numbers[2];
     let d = numbers[3];
+    let e = numbers[4];
     match row {
         0 => Command::Ranges(Call::Copy, a, b, c, d),
         1 => Command::Ranges(Call::Move, a, b, c, d),
@@ -212,8 +223,11 @@ fn say(line: &[u8], row: usize, numbers: &[usize; MOST_FIELDS]) -> Command
         3 => Command::Ranges(Call::Compare, a, b, c, d),
         4 => Command::Ranges(Call::Bcmp, a, b, c, d),
         5 => Command::Strlen(a, b),
-        6 => inside_memory(a, b, Command::Put(a, b)),
-        7 => inside_memory(a, b, Command::Get(a, b)),
+        6 => Command::CopyLog(a, b, c, d, e),
+        7 => Command::MoveLog(a, b, c, d, e),
+        8 => Command::FillLog(a, b, value_at(line, 3), d, e),
+        9 => inside_memory(a, b, Command::Put(a, b)),
+        10 => inside_memory(a, b, Command::Get(a, b)),
         _ => Command::Clear,
     }
 }
@@ -223,7 +237,7 @@ fn row_of(word: &[u8]) -> usize
     ensures { λ r. ⌜ r ≡ numberIn rowCount wordTable (now (word .entry)) ⌝ }
 {
     number_in(
-        b"copy;move;fill;compare;bcmp;strlen;put;get;clear;",
+        b"copy;move;fill;compare;bcmp;strlen;copy-log;move-log;fill-log;put;get;clear;",
         ROWS,
         word,
     )
@@ -234,7 +248,10 @@ fn known(line: &[u8], row: usize, end: usize, most: usize) -> Command
     requires { ⌜ (row < rowCount) × (end ≡ fieldEnd (now line)) × (end ≤ length (now line)) ⌝ }
     ensures { λ r. ⌜ r ≡ readBy most (now (line .entry)) (rowAt (now (line .entry)) row) ⌝ }
 {
-    let kinds = text_at(b"knnn;knnn;knvn;knnn;knnn;kn;nh;nn;;", row);
+    let kinds = text_at(
+        b"knnn;knnn;knvn;knnn;knnn;kn;knnnr;knnnr;knvnr;nh;nn;;",
+        row,
+    );
     let mut numbers = [0; MOST_FIELDS];
     match read_fields(&line[end..], kinds, most, &mut numbers) {
         Found::Good => say(line, row, &numbers),

@@ -9,19 +9,17 @@ use native.Mathlib.Omega.{arith}
 use lib.ListN.{length, getD, set, drop, replicate, length-append, length-set, length-replicate, replicate-append-replicate}
 use lib.Seq.{drop-cons, set-at, append-snoc, drop-length}
 use borrow.Author.Tests.{eq-eqb, ne-eqb}
-use Rattle.model.specs.declared.Work.{Work}
 use Rattle.model.specs.Memory.{byte, view, over, laid, readLE}
 use Rattle.model.proofs.ByteLaws.{byte-lt, readLE-lt, readLE-byte, readLE-one, readLE-append}
 use Rattle.texts.specs.Codes.{codes}
 use Rattle.texts.specs.Digits.{digitOf}
 use Rattle.words8.specs.Word.{W}
-use Rattle.runs.specs.Ran.{Stored}
 use Rattle.model.proofs.MemoryLaws.{over-in, over-below, over-above, over-cong, Place, below, inside, above, place}
 use Rattle.show.specs.Numbers.{hexByte}
 use Rattle.show.specs.Written.{Wrote}
 use Rattle.show.proofs.Writing.{wrote-none, wrote-then}
 use Rattle.lines.specs.Lines.{getText}
-use Rattle.lines.specs.Bytes.{hexText, hexNumber, hexAt, Put, PutNext}
+use Rattle.lines.specs.Bytes.{hexText, hexNumber, hexAt, Laid, Put, PutNext}
 
 -- Two digits for each byte.
 pub hex-length : (f : ℕ → ℕ) (a n : ℕ) → length (hexText f a n) ≡ 2 * n
@@ -102,9 +100,9 @@ pub hex-byte : (hex : List ℕ) (i v : ℕ) → digitOf (getD hex (2 * i) 0) < 1
 hex-byte hex i v high low is = omega arith
 
 -- A store of the number that w bytes of the text make puts these bytes.
-pub put-stored : {W : ℕ} {ws ws' : List ℕ} {work : Work} (hex : List ℕ) (a i w at v : ℕ) → Stored W w at v ws ws' work → at ≡ a + i → 0 < w
+pub put-laid : {W : ℕ} {ws ws' : List ℕ} (hex : List ℕ) (a i w at v : ℕ) → Laid W w at v ws ws' → at ≡ a + i → 0 < w
     → i + w ≤ length hex / 2 → v ≡ readLE (hexAt hex) i w → PutNext W hex a i ws ws' (i + w)
-put-stored {W} {ws} hex a i w at v s is some few value =
+put-laid {W} {ws} hex a i w at v s is some few value =
     let width : i + w - i ≡ w = omega arith in
     record {
       more = omega arith;

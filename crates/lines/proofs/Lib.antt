@@ -1,4 +1,5 @@
 pub mod BytesLaws
 pub mod Calls
+pub mod Logged
 pub mod Reasons
 pub mod Rooms

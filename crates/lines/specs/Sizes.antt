@@ -1,10 +1,10 @@
 -- The sizes of the test program's memory and of its answers, each once.
 -- Assumes nothing.
-use Prim.Native.Nat.{ℕ, _+_, _*_}
+use Prim.Native.Nat.{ℕ, _+_}
 use lib.ListN.{length}
 use Rattle.texts.specs.Codes.{codes}
-use Rattle.show.specs.Sizes.{mostNumber}
-use Rattle.commands.specs.Sizes.{memoryBytes}
+use Rattle.show.specs.Sizes.{mostNumber, mostLogged}
+use Rattle.commands.specs.Sizes.{mostRoom}
 
 -- The words of the memory.
 abbrev pub memoryWords : ℕ
@@ -22,6 +22,6 @@ mostWhy = length (codes "an odd number of hex digits")
 abbrev pub mostError : ℕ
 mostError = length (codes "error ") + mostNumber + 1 + mostWhy + 1
 
--- The longest answer is that of a `get` of the whole memory.
+-- The longest answer is that of a call with the largest log.
 abbrev pub longestAnswer : ℕ
-longestAnswer = 2 * memoryBytes + length (codes "bytes ") + 1
+longestAnswer = mostLogged mostRoom

@@ -6,10 +6,14 @@ use crate::memory::put_bytes;
 use crate::memory::write_bytes;
 use commands::Call;
 use commands::Command;
+use commands::MOST_ROOM;
 use commands::Why;
 use commands::command_of;
 use commands::field_of;
 use mem8::bcmp;
+use mem8::logged::memcpy_logged;
+use mem8::logged::memmove_logged;
+use mem8::logged::memset_logged;
 use mem8::memcmp;
 use mem8::memcpy;
 use mem8::memmove;
@@ -17,9 +21,9 @@ use mem8::memset;
 use mem8::strlen;
 use show::write_answer;
 use show::write_decimal;
+use show::write_logged;
 use show::write_text;
 use texts::text_at;
-use words8::WORD_SIZE;
 use words8::Word;
 ghost use mathlib.Core.Bool.{true};
 ghost use mathlib.Core.Path.{_≡_};
@@ -29,21 +33,22 @@ ghost use Rattle.model.specs.Answers.{fillAnswer, fillWords, stringAnswer};
 ghost use Rattle.model.specs.Fit.{Range};
 ghost use Rattle.model.specs.Memory.{view};
 ghost use Rattle.show.specs.AnswerText.{answerText};
-ghost use Rattle.show.specs.Sizes.{mostAnswer};
+ghost use Rattle.show.specs.Sizes.{mostAnswer, mostLogged};
 ghost use Rattle.show.specs.Written.{Room, Wrote};
 ghost use Rattle.texts.specs.Digits.{allDigits};
 ghost use Rattle.commands.specs.Commands.{commandOf};
 ghost use Rattle.commands.specs.Fine.{Fine};
+ghost use Rattle.commands.specs.Sizes.{mostRoom};
 ghost use Rattle.words8.specs.Word.{W};
 ghost use Rattle.lines.specs.Bytes.{Put};
-ghost use Rattle.lines.specs.Lines.{onFirst, rangesAnswer, rangesWords, putText, getText, clearText, reasonNumber, whyText, errorText, Answered};
+ghost use Rattle.lines.specs.Lines.{onFirst, rangesAnswer, rangesWords, copyLogText, moveLogText, fillLogText, copyLogWords, moveLogWords, fillLogWords, putText, getText, clearText, reasonNumber, whyText, errorText, Answered};
 ghost use Rattle.lines.specs.Sizes.{memoryWords, mostPut, mostWhy, mostError, longestAnswer};
 
 // The words of the memory.
 pub const MEMORY_WORDS: usize = 8192;
 
-// The most bytes of an answer: `bytes`, a space, two digits for each byte of the memory, and the newline.
-pub const LONGEST_ANSWER: usize = 2 * WORD_SIZE * MEMORY_WORDS + 7;
+// The most bytes of an answer: what a call says, ` log` and the newline, and 11 for each number of a log, with the space before it.
+pub const LONGEST_ANSWER: usize = 214 + 11 * MOST_ROOM;
 
 fn answer_ranges(
     mem: &mut [Word],
@@ -91,6 +96,67 @@ fn answer_strlen(mem: &[Word], k: usize, start: usize, out: &mut [u8], at: usize
     write_answer(out, at, strlen(&mem[..k], start))
 }
 
+// A copy with a log of `room` numbers, and its answer with the numbers that were written. So a move, and a fill.
+fn answer_copy_log(
+    mem: &mut [Word],
+    log: &mut [u32],
+    k: usize,
+    dest: usize,
+    src: usize,
+    n: usize,
+    room: usize,
+    out: &mut [u8],
+    at: usize,
+) -> usize
+    requires { ⌜ (k ≤ length (now mem)) × (room ≤ length (now log)) × (Room (mostLogged room) at (now out)) ⌝ }
+    ensures { λ r. ⌜ (now (mem .exit) ≡ onFirst k (copyLogWords dest src n room) (now (mem .entry)))
+        × (Wrote (copyLogText k dest src n room) at (now (out .entry)) (now (out .exit)) r) ⌝ }
+{
+    let lent = &mut log[..room];
+    let answer = memcpy_logged(&mut mem[..k], lent, dest, src, n);
+    write_logged(out, at, answer, lent)
+}
+
+fn answer_move_log(
+    mem: &mut [Word],
+    log: &mut [u32],
+    k: usize,
+    dest: usize,
+    src: usize,
+    n: usize,
+    room: usize,
+    out: &mut [u8],
+    at: usize,
+) -> usize
+    requires { ⌜ (k ≤ length (now mem)) × (room ≤ length (now log)) × (Room (mostLogged room) at (now out)) ⌝ }
+    ensures { λ r. ⌜ (now (mem .exit) ≡ onFirst k (moveLogWords dest src n room) (now (mem .entry)))
+        × (Wrote (moveLogText k dest src n room) at (now (out .entry)) (now (out .exit)) r) ⌝ }
+{
+    let lent = &mut log[..room];
+    let answer = memmove_logged(&mut mem[..k], lent, dest, src, n);
+    write_logged(out, at, answer, lent)
+}
+
+fn answer_fill_log(
+    mem: &mut [Word],
+    log: &mut [u32],
+    k: usize,
+    dest: usize,
+    c: i32,
+    n: usize,
+    room: usize,
+    out: &mut [u8],
+    at: usize,
+) -> usize
+    requires { ⌜ (k ≤ length (now mem)) × (room ≤ length (now log)) × (Room (mostLogged room) at (now out)) ⌝ }
+    ensures { λ r. ⌜ (now (mem .exit) ≡ onFirst k (fillLogWords dest c n room) (now (mem .entry)))
+        × (Wrote (fillLogText k dest n room) at (now (out .entry)) (now (out .exit)) r) ⌝ }
+{
+    let lent = &mut log[..room];
+    let answer = memset_logged(&mut mem[..k], lent, dest, c, n);
+    write_logged(out, at, answer, lent)
+}
+
 fn answer_put(mem: &mut [Word], address: usize, hex: &[u8], out: &mut [u8], at: usize) -> usize
     requires { ⌜ (Range W (length (now mem)) address (length (now hex) / 2)) × (allDigits (now hex) ≡ true) × (Room mostPut at (now out)) ⌝ }
     ensures { λ r. ⌜ (Put W (now (hex .entry)) address (length (now (hex .entry)) / 2) (now (mem .entry)) (now (mem .exit)))
@@ -124,8 +190,9 @@ fn reason_number(why: Why) -> usize
         Why::WrongFields => 2,
         Why::NoNumber => 3,
         Why::TooManyWords => 4,
-        Why::OddDigits => 5,
-        Why::OutsideMemory => 6,
+        Why::TooMuchRoom => 5,
+        Why::OddDigits => 6,
+        Why::OutsideMemory => 7,
     }
 }
 
@@ -134,7 +201,7 @@ fn write_why(out: &mut [u8], at: usize, why: Why) -> usize
     ensures { λ r. ⌜ Wrote (whyText why) at (now (out .entry)) (now (out .exit)) r ⌝ }
 {
     let reasons =
-        b"a line above 16,383 bytes;unknown word;wrong number of fields;no number or one too large;k above 8192;an odd number of hex digits;a byte outside the memory;";
+        b"a line above 16,383 bytes;unknown word;wrong number of fields;no number or one too large;k above 8192;a log above 40960 numbers;an odd number of hex digits;a byte outside the memory;";
     write_text(out, at, text_at(reasons, reason_number(why)))
 }
 
@@ -158,39 +225,40 @@ fn answer_clear(mem: &mut [Word], out: &mut [u8], at: usize) -> usize
     write_text(out, at, b"clear\n")
 }
 
-// Answers a command: what it says is done to the memory, and the answer is written to `out` from `at` on.
+// Answers a command: what it says is done to the memory, and the answer is written to `out` from `at` on. `log` is for the calls with a log:
+// what stands in it before a call is not shown.
 fn answer_command(
     mem: &mut [Word],
+    log: &mut [u32],
     line: &[u8],
     number: u64,
     command: Command,
     out: &mut [u8],
     at: usize,
 ) -> usize
-    requires { ⌜ (length (now mem) ≡ memoryWords) × (Room longestAnswer at (now out)) × (Fine memoryWords (now line) command) ⌝ }
+    requires { ⌜ (length (now mem) ≡ memoryWords) × (Room longestAnswer at (now out)) × (Fine memoryWords (now line) command)
+        × (length (now log) ≡ mostRoom) ⌝ }
     ensures { λ r. ⌜ Answered (now (mem .entry)) number (now (line .entry)) command (now (mem .exit)) at (now (out .entry)) (now (out .exit)) r ⌝ }
 {
     match command {
         Command::Nothing => at,
-        Command::Ranges(call, k, first, second, n) => answer_ranges(
-            mem,
-            call,
-            k,
-            first,
-            second,
-            n,
-            out,
-            at,
-        ),
+        Command::Ranges(call, k, first, second, n) => {
+            answer_ranges(mem, call, k, first, second, n, out, at)
+        }
         Command::Fill(k, dest, c, n) => answer_fill(mem, k, dest, c, n, out, at),
         Command::Strlen(k, start) => answer_strlen(mem, k, start, out, at),
-        Command::Put(address, count) => answer_put(
-            mem,
-            address,
-            field_of(line, 2, 2 * count),
-            out,
-            at,
-        ),
+        Command::CopyLog(k, dest, src, n, room) => {
+            answer_copy_log(mem, log, k, dest, src, n, room, out, at)
+        }
+        Command::MoveLog(k, dest, src, n, room) => {
+            answer_move_log(mem, log, k, dest, src, n, room, out, at)
+        }
+        Command::FillLog(k, dest, c, n, room) => {
+            answer_fill_log(mem, log, k, dest, c, n, room, out, at)
+        }
+        Command::Put(address, count) => {
+            answer_put(mem, address, field_of(line, 2, 2 * count), out, at)
+        }
         Command::Get(address, count) => answer_get(mem, address, count, out, at),
         Command::Clear => answer_clear(mem, out, at),
         Command::Bad(why) => answer_bad(number, why, out, at),
@@ -198,9 +266,24 @@ fn answer_command(
 }
 
 // Answers line `number`.
-pub fn answer_line(mem: &mut [Word], line: &[u8], number: u64, out: &mut [u8], at: usize) -> usize
-    requires { ⌜ (length (now mem) ≡ memoryWords) × (Room longestAnswer at (now out)) ⌝ }
+pub fn answer_line(
+    mem: &mut [Word],
+    log: &mut [u32],
+    line: &[u8],
+    number: u64,
+    out: &mut [u8],
+    at: usize,
+) -> usize
+    requires { ⌜ (length (now mem) ≡ memoryWords) × (Room longestAnswer at (now out)) × (length (now log) ≡ mostRoom) ⌝ }
     ensures { λ r. ⌜ Answered (now (mem .entry)) number (now (line .entry)) (commandOf memoryWords (now (line .entry))) (now (mem .exit)) at (now (out .entry)) (now (out .exit)) r ⌝ }
 {
-    answer_command(mem, line, number, command_of(line, MEMORY_WORDS), out, at)
+    answer_command(
+        mem,
+        log,
+        line,
+        number,
+        command_of(line, MEMORY_WORDS),
+        out,
+        at,
+    )
 }

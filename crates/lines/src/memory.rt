@@ -14,13 +14,16 @@ ghost use Rattle.model.specs.Memory.{view, readLE};
 ghost use Rattle.show.specs.Written.{Room, Wrote};
 ghost use Rattle.texts.specs.Digits.{digitOf, allDigits};
 ghost use Rattle.words8.specs.Word.{W};
-ghost use Rattle.lines.specs.Bytes.{hexText, hexNumber, hexAt, Put, PutNext};
+ghost use Rattle.lines.specs.Bytes.{hexText, hexNumber, hexAt, Laid, Put, PutNext};
 
+// A byte. No call loads it, so it is lent a log of no places, which keeps nothing.
 fn byte_at(mem: &[Word], at: usize) -> u8
     requires { ⌜ Fit W (length (now mem)) 1 at ⌝ }
     ensures { λ r. ⌜ r ≡ view W (now (mem .entry)) at ⌝ }
 {
-    load(mem, at, 1).value as u8
+    let mut log = [0u32; 0];
+    let mut place: usize = 0;
+    load(mem, &mut log, &mut place, at, 1).value as u8
 }
 
 // The bytes from an address on, as hexadecimal digits.
@@ -60,6 +63,16 @@ fn next_word(hex: &[u8], i: usize) -> Word
     word
 }
 
+// Sets the `width` bytes from an address on. No call stores them either.
+fn set(mem: &mut [Word], at: usize, width: usize, value: Word)
+    requires { ⌜ Fit W (length (now mem)) width at ⌝ }
+    ensures { λ _. ⌜ Laid W width at value (now (mem .entry)) (now (mem .exit)) ⌝ }
+{
+    let mut log = [0u32; 0];
+    let mut place: usize = 0;
+    store(mem, &mut log, &mut place, at, width, value);
+}
+
 // Puts what comes next of a text, from byte i on: a whole word where it can be one, else a byte. Hands back how much of it is put then.
 fn put_next(mem: &mut [Word], address: usize, hex: &[u8], i: usize) -> usize
     requires { ⌜ (Range W (length (now mem)) address (length (now hex) / 2)) × (allDigits (now hex) ≡ true) × (i < length (now hex) / 2) ⌝ }
@@ -68,11 +81,11 @@ fn put_next(mem: &mut [Word], address: usize, hex: &[u8], i: usize) -> usize
     let at = address + i;
     if at % WORD_SIZE == 0 {
         if i + WORD_SIZE <= hex.len() / 2 {
-            store(mem, at, WORD_SIZE, next_word(hex, i));
+            set(mem, at, WORD_SIZE, next_word(hex, i));
             return i + WORD_SIZE;
         }
     }
-    store(mem, at, 1, two_digits(hex[2 * i], hex[2 * i + 1]));
+    set(mem, at, 1, two_digits(hex[2 * i], hex[2 * i + 1]));
     i + 1
 }
 

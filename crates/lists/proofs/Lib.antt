@@ -13,4 +13,5 @@ pub mod Placed
 pub mod Lengths
 pub mod Bounds
 pub mod Firsts
+pub mod Told
 pub mod Measured

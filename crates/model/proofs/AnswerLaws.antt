@@ -11,14 +11,14 @@ use Rattle.model.specs.declared.Answer.{Answer}
 use Rattle.model.specs.declared.Outcome.{Outcome}
 use Rattle.model.specs.declared.Outcome.the-variants.{Address, Number, Length, Refused}
 use Rattle.model.specs.declared.Refusal.{Refusal}
-use Rattle.model.specs.declared.Refusal.the-variants.{TooLarge, FirstOutside, SecondOutside, Overlap, NoZero}
+use Rattle.model.specs.declared.Refusal.the-variants.{TooLarge, FirstOutside, SecondOutside, Overlap, NoZero, ShortLog}
 use Rattle.model.specs.Answers.{Said, an-address, a-number, a-length, a-refusal, Reply, numberOf, saidOf, answered, accepted, refused, stringAnswer}
 use Rattle.model.specs.Lists.{stringList}
 use Rattle.model.specs.Refusals.{checked, toEnd, zeroAt, noZero, startTable, stringTable}
 
 refusalOf : ℕ → Refusal
 refusalOf r =
-    cond (eqb r 1) TooLarge (cond (eqb r 2) FirstOutside (cond (eqb r 3) SecondOutside (cond (eqb r 4) Overlap NoZero)))
+    cond (eqb r 1) TooLarge (cond (eqb r 2) FirstOutside (cond (eqb r 3) SecondOutside (cond (eqb r 4) Overlap (cond (eqb r 5) NoZero ShortLog))))
 
 outcomeOf : Said → Outcome
 outcomeOf (an-address a) = Address a
@@ -33,6 +33,7 @@ refusal-back FirstOutside = refl
 refusal-back SecondOutside = refl
 refusal-back Overlap = refl
 refusal-back NoZero = refl
+refusal-back ShortLog = refl
 
 outcome-back : (o : Outcome) → outcomeOf (saidOf o) ≡ o
 unfolding outcomeOf

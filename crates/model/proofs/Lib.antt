@@ -1,4 +1,5 @@
 pub mod TallyLaws
+pub mod LogLaws
 pub mod FitLaws
 pub mod PerformLaws
 pub mod ByteLaws

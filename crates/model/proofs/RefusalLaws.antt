@@ -6,10 +6,12 @@ use mathlib.Core.Bool.{Bool, true, false, cond, _||_}
 use mathlib.Core.List.{List, [], _∷_, _++_}
 use Prim.Native.Nat.{ℕ, _+_, _*_, _-_, _≤_}
 use native.Mathlib.Omega.{arith}
+use lib.ListN.{length}
 use borrow.Author.Tests.{ltb-false, leb-false}
 use Rattle.model.specs.Fit.{Range}
 use Rattle.model.specs.Memory.{mostWords}
-use Rattle.model.specs.Refusals.{Line, checked, someHolds, Ruling, none, given, ruled, tooLarge, overlap, rangesTable, copyTable, fillTable, startTable}
+use Rattle.model.specs.Refusals.{Line, checked, someHolds, Ruling, none, given, ruled, tooLarge, overlap, shortLog, rangesTable, copyTable, fillTable, logTable, startTable}
+use Rattle.model.specs.Access.{Access}
 
 -- No test both passes and fails.
 pub not-both : (b : Bool) → b ≡ true → b ≡ false → ⊥
@@ -168,3 +170,21 @@ unfolding copyTable
 copy-accepted W k dest src n e =
     let h = both-none (rangesTable W k dest src n) (overlap dest src n ∷ []) e in
     (ranges-accepted W k dest src n (h .0), line-none (overlap dest src n) [] (h .1) .0)
+
+-- A logged call's table is its call's with refusal 6 after it.
+pub log-accepted : (lines : List Line) (xs : List Access) (room : ℕ) → ruled (logTable lines xs room) ≡ none
+    → (ruled lines ≡ none) × (length xs ≤ room)
+unfolding logTable
+log-accepted lines xs room e =
+    let h = both-none lines (shortLog room (length xs) ∷ []) e in
+    (h .0, ltb-false room (length xs) (line-none (shortLog room (length xs)) [] (h .1) .0))
+
+-- What the checks of a logged call find: what those of its call do, or then line 6.
+pub log-given : {r : ℕ} (lines : List Line) (xs : List Access) (room : ℕ) → ruled lines ≡ given r → given r ≡ ruled (logTable lines xs room)
+unfolding logTable
+log-given lines xs room e = append-given lines (shortLog room (length xs) ∷ []) e
+
+pub log-passed : {x : Ruling} {m : ℕ} (lines : List Line) (xs : List Access) (room : ℕ) → ruled lines ≡ none
+    → x ≡ ruled (shortLog room m ∷ []) → m ≡ length xs → x ≡ ruled (logTable lines xs room)
+unfolding logTable
+log-passed lines xs room e p q = p ∙ ap (λ (m : ℕ). ruled (shortLog room m ∷ [])) q ∙ append-passed lines (shortLog room (length xs) ∷ []) e

@@ -53,6 +53,10 @@ pub tally-append : (xs ys : List Access) → tally (xs ++ ys) ≡ joined (tally 
 unfolding tally joined
 tally-append xs ys = same-counts (totals-append eight xs ys)
 
+-- A record of two lists in a row, from those of each.
+pub counted-then : {a b c : Work} (xs ys : List Access) → a ≡ tally xs → b ≡ tally ys → c ≡ joined a b → c ≡ tally (xs ++ ys)
+counted-then xs ys p q r = rw (r, p, q, tally-append xs ys) refl
+
 pub joinable : {a b : Work} (xs ys : List Access) → a ≡ tally xs → b ≡ tally ys → length xs + length ys < 2 ^ 64
     → Joinable a b
 joinable xs ys p q h = record { xs = xs; ys = ys; first = p; second = q; fits = h }

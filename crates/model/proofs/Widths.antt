@@ -7,10 +7,11 @@ use mathlib.Core.List.{[], _∷_}
 use Prim.Native.Nat.{ℕ, zero, suc, _+_, _%_, _^_, _<_}
 use native.Mathlib.Nat.{eq-or-lt-of-le, le-of-suc-le-suc, le-of-dvd, dvd-of-mod-eq-zero}
 use native.Mathlib.Omega.{arith}
-use lib.Dec.{T, eqb, eqb→eq}
+use lib.Dec.{T, eqb, ltb, eqb→eq, ltb→lt}
 use lib.ListN.{set, replicate}
 use borrow.Author.Tests.{eq-eqb, ne-eqb}
 use Rattle.model.specs.Access.{load, store}
+use Rattle.model.specs.Log.{widthCode}
 use Rattle.model.specs.Tally.{total, tally}
 
 -- A test that is computed to pass at every number below n passes at each of them.
@@ -36,6 +37,25 @@ unfolding known
 last-width w h not1 not2 not4 =
     sym (eqb→eq w 8 (rw (eq-eqb (8 % w) 0 h, ne-eqb w 1 not1, ne-eqb w 2 not2, ne-eqb w 4 not4) at
     (below known 9 tt w (omega (arith, le-of-dvd {m = w} {n = 8} (omega arith) (dvd-of-mod-eq-zero w h))))))
+
+-- A width below 16 that is a power of 2 has that power as its code.
+pub code-back : (code : ℕ) → code < 4 → widthCode (2 ^ code) ≡ code
+code-back zero l = refl
+code-back (suc zero) l = refl
+code-back (suc (suc zero)) l = refl
+code-back (suc (suc (suc zero))) l = refl
+code-back (suc (suc (suc (suc code)))) l = absurd (omega arith)
+
+-- A width that divides 8 is 2 to its code, which is below 4.
+coded : ℕ → Bool
+coded w = not (eqb (8 % w) 0) || (ltb (widthCode w) 4 && eqb (2 ^ widthCode w) w)
+
+pub code-power : (w : ℕ) → 8 % w ≡ 0 → (widthCode w < 4) × (2 ^ widthCode w ≡ w)
+unfolding coded
+code-power w h =
+    let small : w < 9 = omega (arith, le-of-dvd {m = w} {n = 8} (omega arith) (dvd-of-mod-eq-zero w h)) in
+    let passed = both (ltb (widthCode w) 4) (eqb (2 ^ widthCode w) w) (rw (eq-eqb (8 % w) 0 h) at (below coded 9 tt w small)) in
+    (ltb→lt (widthCode w) 4 (passed .0), eqb→eq (2 ^ widthCode w) w (passed .1))
 
 -- Loads stand in the first four places, by the code of their width, and stores in the last four.
 pub one-access : (code at : ℕ) → code < 4

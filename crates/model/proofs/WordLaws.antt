@@ -7,6 +7,7 @@ use native.Mathlib.Nat.{div-add-mod, div-lt-iff-lt-mul, dvd-of-mod-eq-zero, dvd-
 use native.Mathlib.Omega.{arith}
 use lib.ListN.{length, getD, set}
 use Rattle.model.specs.Fit.{Aligned, Fit}
+use Rattle.model.specs.Log.{perCode}
 use Rattle.model.specs.Memory.{byte, view, readLE, over, laid}
 use Rattle.model.proofs.MemoryLaws.{readLE-view, view-set}
 
@@ -32,6 +33,11 @@ module _ {W w a : ℕ} (some : 0 < W) where
 
   pub word-lent : {k : ℕ} → Fit W k w a → a / W < k
   word-lent {k} f = div-lt-iff-lt-mul some .1 (omega (arith, width-some (f .aligned), mul-comm W k))
+
+  -- Its address leaves room for kind and width in the number of the access.
+  pub address-fits : {k : ℕ} → Fit W k w a → a < perCode
+  address-fits {k} f =
+      omega (arith, width-some (f .aligned), f .range .inside, mul-le-mul-left W (f .range .few), div-add-mod perCode W)
 
   pub part-loaded : (ws : List ℕ) → Aligned W w a
       → readLE (byte (getD ws (a / W) 0)) (a % W) w ≡ readLE (view W ws) a w

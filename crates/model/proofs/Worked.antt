@@ -1,4 +1,4 @@
--- Document 01's worked numbers, proved of the written meaning itself, by computation: one table under the single claim `worked`.
+-- The worked numbers of documents 01 and 02, proved of the written meaning itself, by computation: one table under the single claim `worked`.
 -- Assumes nothing.
 use mathlib.Core.Path.{_≡_, refl}
 use mathlib.Core.Bool.{true, false}
@@ -6,14 +6,15 @@ use mathlib.Core.List.{List, [], _∷_, map}
 use Prim.Native.Nat.{ℕ, _+_, _*_, _-_, _^_}
 use lib.IntN.{pos, negsuc}
 use lib.ListN.{length, replicate}
-use Rattle.model.specs.declared.Refusal.the-variants.{TooLarge, FirstOutside, SecondOutside, Overlap, NoZero}
+use Rattle.model.specs.declared.Refusal.the-variants.{TooLarge, FirstOutside, SecondOutside, Overlap, NoZero, ShortLog}
 use Rattle.model.specs.Access.{load, store}
 use Rattle.model.specs.Tally.{tally, total}
 use Rattle.model.specs.Lists.{upto, pairs, chunks, misaligned, wholeWords, phases, run, along, copyList, moveList, upward, stores, fillPhases, fillList, compareList, stringList}
 use Rattle.model.specs.Memory.{view, readLE, packed, over}
 use Rattle.model.specs.Meaning.{first, memcpy, memmove, memset, memcmp}
 use Rattle.model.specs.Perform.{State, perform, moving, filling}
-use Rattle.model.specs.Refusals.{checked, rangesTable, copyTable, fillTable, startTable, stringTable}
+use Rattle.model.specs.Log.{logAfter}
+use Rattle.model.specs.Refusals.{Line, none, given, ruled, checked, rangesTable, copyTable, fillTable, logTable, startTable, stringTable}
 use Rattle.model.specs.Answers.{Said, an-address, a-number, a-length, a-refusal, Reply, numberOf, copyAnswer, moveAnswer, fillAnswer, compareAnswer, bcmpAnswer, stringAnswer, copyWords, moveWords, fillWords}
 
 -- An outcome with its counts, as the document writes them: loads 1/2/4/8, stores 1/2/4/8.
@@ -37,6 +38,13 @@ ones = 0x0101010101010101 ∷ []
 
 abbrev ended : List ℕ
 ended = 0x0001010101010101 ∷ []
+
+-- The table and the log of a logged copy in 16 words.
+abbrev copyLogTable : ℕ → ℕ → ℕ → ℕ → List Line
+copyLogTable dest src n room = logTable (copyTable 8 16 dest src n) (copyList 8 dest src n) room
+
+abbrev copyLog : ℕ → ℕ → ℕ → List ℕ → List ℕ
+copyLog dest src n es = checked (copyLogTable dest src n (length es)) (λ i. es) (logAfter (copyList 8 dest src n) es)
 
 -- Each byte its own address, and nothing held.
 abbrev numbered : ℕ → ℕ
@@ -114,7 +122,8 @@ pub record Worked : Type 0 where
   pub string-5 : stringAnswer 8 ones 3 ≡ reply (a-refusal 5) 5 0 0 0 0 0 0 0
   pub string-5-not : stringAnswer 8 ended 3 ≡ reply (a-length 4) 5 0 0 0 0 0 0 0
   -- The document's number of each refusal of the code.
-  pub refusal-numbers : map numberOf (TooLarge ∷ FirstOutside ∷ SecondOutside ∷ Overlap ∷ NoZero ∷ []) ≡ 1 ∷ 2 ∷ 3 ∷ 4 ∷ 5 ∷ []
+  pub refusal-numbers : map numberOf (TooLarge ∷ FirstOutside ∷ SecondOutside ∷ Overlap ∷ NoZero ∷ ShortLog ∷ [])
+      ≡ 1 ∷ 2 ∷ 3 ∷ 4 ∷ 5 ∷ 6 ∷ []
   -- The first line that holds is given; sums are exact; length 0 is accepted at M and not past it, also where M is 0.
   pub one-before-two : copyAnswer 8 8193 (2 ^ 64 - 1) 0 1 ≡ nothing (a-refusal 1)
   pub two-before-three : copyAnswer 8 16 128 128 1 ≡ nothing (a-refusal 2)
@@ -134,9 +143,31 @@ pub record Worked : Type 0 where
   pub refused-copy : copyWords 8 ones 0 0 1 ≡ ones
   pub refused-move : moveWords 8 ones 1 0 8 ≡ ones
   pub refused-fill : fillWords 8 ones 1 (pos 0) 8 ≡ ones
+  -- The order, list by list: P8 goes backward; P10's fill; two pairs of a compare; a string whose zero is its second byte.
+  pub P8-list : moveList 8 9 8 16
+      ≡ load 1 23 ∷ store 1 24 ∷ load 4 16 ∷ load 2 20 ∷ load 1 22 ∷ load 1 15 ∷ store 8 16 ∷ load 1 14 ∷ store 1 15 ∷ load 1 13 ∷ store 1 14
+      ∷ load 1 12 ∷ store 1 13 ∷ load 1 11 ∷ store 1 12 ∷ load 1 10 ∷ store 1 11 ∷ load 1 9 ∷ store 1 10 ∷ load 1 8 ∷ store 1 9 ∷ []
+  pub P10-list : fillList 8 1 16
+      ≡ store 1 1 ∷ store 1 2 ∷ store 1 3 ∷ store 1 4 ∷ store 1 5 ∷ store 1 6 ∷ store 1 7 ∷ store 8 8 ∷ store 1 16 ∷ []
+  pub compare-list : compareList 0 16 2 2 ≡ load 1 0 ∷ load 1 16 ∷ load 1 1 ∷ load 1 17 ∷ []
+  pub string-list : stringList 3 5 1 ≡ load 1 3 ∷ load 1 4 ∷ []
+  pub bcmp-unequal : bcmpAnswer 8 unlike 0 1 1 ≡ reply (a-number (negsuc 254)) 2 0 0 0 0 0 0 0
+  -- Document 02's log of P3, in a log of nine sevens: the places past the list stay. Refusal 6 at its edge, last of all; and a refusal
+  -- leaves the log. An empty list needs no place.
+  pub P3-log : copyLog 0 33 16 (replicate 9 7) ≡ 33 ∷ 65570 ∷ 131108 ∷ 196648 ∷ 458752 ∷ 48 ∷ 458760 ∷ 7 ∷ 7 ∷ []
+  pub copy-6-not : ruled (copyLogTable 0 33 16 7) ≡ none
+  pub copy-6 : ruled (copyLogTable 0 33 16 6) ≡ given 6
+  pub copy-6-left : copyLog 0 33 16 (replicate 6 7) ≡ replicate 6 7
+  pub two-before-six : ruled (copyLogTable 113 0 16 0) ≡ given 2
+  pub four-before-six : ruled (copyLogTable 0 15 16 0) ≡ given 4
+  pub move-6-not : ruled (logTable (rangesTable 8 16 9 8 16) (moveList 8 9 8 16) 21) ≡ none
+  pub move-6 : ruled (logTable (rangesTable 8 16 9 8 16) (moveList 8 9 8 16) 20) ≡ given 6
+  pub fill-6-not : ruled (logTable (fillTable 8 16 1 16) (fillList 8 1 16) 9) ≡ none
+  pub fill-6 : ruled (logTable (fillTable 8 16 1 16) (fillList 8 1 16) 8) ≡ given 6
+  pub empty-log : ruled (copyLogTable 0 0 0 0) ≡ none
 
 pub worked : Worked
-unfolding perform upto pairs chunks misaligned wholeWords phases run along stores fillPhases fillList compareList stringList total tally view readLE packed over first memcpy memmove memset memcmp checked rangesTable copyTable fillTable startTable stringTable copyAnswer moveAnswer fillAnswer compareAnswer bcmpAnswer stringAnswer copyWords moveWords fillWords
+unfolding perform upto pairs chunks misaligned wholeWords phases run along stores fillPhases fillList compareList stringList total tally view readLE packed over first memcpy memmove memset memcmp checked rangesTable copyTable fillTable logTable logAfter startTable stringTable copyAnswer moveAnswer fillAnswer compareAnswer bcmpAnswer stringAnswer copyWords moveWords fillWords
 worked =
     record {
       P1 = refl;
@@ -219,4 +250,20 @@ worked =
       refused-copy = refl;
       refused-move = refl;
       refused-fill = refl;
+      P8-list = refl;
+      P10-list = refl;
+      compare-list = refl;
+      string-list = refl;
+      bcmp-unequal = refl;
+      P3-log = refl;
+      copy-6-not = refl;
+      copy-6 = refl;
+      copy-6-left = refl;
+      two-before-six = refl;
+      four-before-six = refl;
+      move-6-not = refl;
+      move-6 = refl;
+      fill-6-not = refl;
+      fill-6 = refl;
+      empty-log = refl;
     }

@@ -11,7 +11,7 @@ use Rattle.model.specs.declared.Answer.{Answer}
 use Rattle.model.specs.declared.Outcome.{Outcome}
 use Rattle.model.specs.declared.Outcome.the-variants.{Address, Number, Length, Refused}
 use Rattle.model.specs.declared.Refusal.{Refusal}
-use Rattle.model.specs.declared.Refusal.the-variants.{TooLarge, FirstOutside, SecondOutside, Overlap, NoZero}
+use Rattle.model.specs.declared.Refusal.the-variants.{TooLarge, FirstOutside, SecondOutside, Overlap, NoZero, ShortLog}
 use Rattle.model.specs.declared.Verdict.{Verdict}
 use Rattle.model.specs.declared.Verdict.the-variants.{Accept, Refuse}
 use Rattle.model.specs.Access.{Access}
@@ -46,6 +46,7 @@ numberOf FirstOutside = 2
 numberOf SecondOutside = 3
 numberOf Overlap = 4
 numberOf NoZero = 5
+numberOf ShortLog = 6
 
 abbrev pub rulingOf : Verdict → Ruling
 rulingOf Accept = none

@@ -2,6 +2,7 @@ pub mod Memory
 pub mod Access
 pub mod Fit
 pub mod Tally
+pub mod Log
 pub mod Lists
 pub mod Perform
 pub mod Meaning

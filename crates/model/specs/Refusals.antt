@@ -5,6 +5,7 @@ use mathlib.Core.Bool.{Bool, false, cond, _&&_, _||_}
 use mathlib.Core.List.{List, [], _∷_, _++_}
 use lib.Dec.{leb, ltb, eqb}
 use lib.ListN.{length}
+use Rattle.model.specs.Access.{Access}
 use Rattle.model.specs.Memory.{mostWords, view}
 use Rattle.model.specs.Meaning.{strlen}
 
@@ -66,6 +67,10 @@ zeroAt W ws s = strlen s (toEnd W ws s) (view W ws)
 abbrev pub noZero : ℕ → List ℕ → ℕ → Line
 noZero W ws s = record { number = 5; holds = eqb (zeroAt W ws s) (toEnd W ws s) }
 
+-- 6, logged calls: the log is shorter than the list.
+abbrev pub shortLog : ℕ → ℕ → Line
+shortLog room accesses = record { number = 6; holds = ltb room accesses }
+
 -- The lines of each call, with M = W k. Move, compare and bcmp have two ranges, and nothing more.
 unfoldable pub rangesTable : ℕ → ℕ → ℕ → ℕ → ℕ → List Line
 rangesTable W k a b n = tooLarge W k ∷ firstOutside (W * k) a n ∷ secondOutside (W * k) b n ∷ []
@@ -75,6 +80,10 @@ copyTable W k dest src n = rangesTable W k dest src n ++ (overlap dest src n ∷
 
 unfoldable pub fillTable : ℕ → ℕ → ℕ → ℕ → List Line
 fillTable W k s n = tooLarge W k ∷ firstOutside (W * k) s n ∷ []
+
+-- A logged call has the lines of its call, and 6 last.
+unfoldable pub logTable : List Line → List Access → ℕ → List Line
+logTable lines xs room = lines ++ (shortLog room (length xs) ∷ [])
 
 -- String length: what is checked before a byte is read, and then 5.
 unfoldable pub startTable : ℕ → ℕ → ℕ → List Line

@@ -1,9 +1,10 @@
-// What both cores share: the record of accesses, and the answer of a call.
+// What both cores share: the record of accesses, the log that they are written to, and the answer of a call.
 ghost use mathlib.Core.Path.{_≡_};
 ghost use mathlib.Core.List.{[], _∷_, zipWith};
 ghost use Prim.Native.Nat.{ℕ, _+_, _^_, _%_, _<_};
 ghost use lib.ListN.{set, replicate};
 ghost use Rattle.model.specs.Access.{load, store};
+ghost use Rattle.model.specs.Log.{perCode, logOf, entered, Recorded};
 ghost use Rattle.model.specs.Tally.{tally, joined, Summable, Joinable};
 ghost use Rattle.model.specs.Answers.{answered, replied, refused, saidOf, numberOf};
 
@@ -39,6 +40,11 @@ pub fn width_code(width: usize) -> usize
     }
 }
 
+// What a width's code and a store add to the address, in the number of an access.
+const PER_CODE: usize = 65536;
+
+const FOR_STORE: usize = 262144;
+
 // A one at a place of the array, which kind and width decide.
 fn one_at(place: usize) -> Work
     requires { ⌜ place < 8 ⌝ }
@@ -51,20 +57,44 @@ fn one_at(place: usize) -> Work
     }
 }
 
-// One load: for the routine that makes it.
-pub fn load_of(width: usize) -> Work
-    requires { ⌜ 8 % width ≡ 0 ⌝ }
-    ensures { λ r. ⌜ ((at : ℕ) → r ≡ tally (load width at ∷ [])) ⌝ }
+// Writes a number at the place of a log and advances the place; at the end of the log it does nothing, so that no caller needs room in
+// one. Nothing else writes a log.
+fn enter(log: &mut [u32], place: &mut usize, number: usize)
+    requires { ⌜ number < 2 ^ 32 ⌝ }
+    ensures { λ _. ⌜ logOf (now (log .exit)) (now (place .exit)) ≡ entered number (logOf (now (log .entry)) (now (place .entry))) ⌝ }
 {
-    one_at(width_code(width))
+    // The plain calls lend no places. This test is the same in every turn of a loop, so that the compiler can make it once, before the loop.
+    if log.len() == 0 {
+        return;
+    }
+    let at = *place;
+    if at >= log.len() {
+        return;
+    }
+    log[at] = number as u32;
+    *place = at + 1;
+}
+
+// One load: for the routine that makes it.
+pub fn load_of(log: &mut [u32], place: &mut usize, at: usize, width: usize) -> Work
+    requires { ⌜ (8 % width ≡ 0) × (at < perCode) ⌝ }
+    ensures { λ r. ⌜ Recorded (load width at ∷ [])
+        (logOf (now (log .entry)) (now (place .entry))) (logOf (now (log .exit)) (now (place .exit))) r ⌝ }
+{
+    let code = width_code(width);
+    enter(log, place, at + PER_CODE * code);
+    one_at(code)
 }
 
 // One store: for the routine that makes it.
-pub fn store_of(width: usize) -> Work
-    requires { ⌜ 8 % width ≡ 0 ⌝ }
-    ensures { λ r. ⌜ ((at : ℕ) → r ≡ tally (store width at ∷ [])) ⌝ }
+pub fn store_of(log: &mut [u32], place: &mut usize, at: usize, width: usize) -> Work
+    requires { ⌜ (8 % width ≡ 0) × (at < perCode) ⌝ }
+    ensures { λ r. ⌜ Recorded (store width at ∷ [])
+        (logOf (now (log .entry)) (now (place .entry))) (logOf (now (log .exit)) (now (place .exit))) r ⌝ }
 {
-    one_at(4 + width_code(width))
+    let code = width_code(width);
+    enter(log, place, at + PER_CODE * code + FOR_STORE);
+    one_at(4 + code)
 }
 
 // The eight sums of two records' counts.
@@ -101,6 +131,7 @@ pub enum Refusal {
     SecondOutside,
     Overlap,
     NoZero,
+    ShortLog,
 }
 
 impl Refusal {
@@ -113,6 +144,7 @@ impl Refusal {
             Refusal::SecondOutside => 3,
             Refusal::Overlap => 4,
             Refusal::NoZero => 5,
+            Refusal::ShortLog => 6,
         }
     }
 }

@@ -1,1 +1,1 @@
-// What the six calls promise is written in `model`; that it is kept, and what follows from it, is proved here. There is no code.
+// What the calls promise is written in `model`; what follows from it is proved here. There is no code.

@@ -64,3 +64,7 @@ byte-fit {W} {x = x} r l m = record {
   aligned = aligned (mod-one W) (mod-one x);
   range = record { few = r .few; inside = omega (arith, r .inside) };
 }
+
+-- Of a byte that lies inside, whichever range it is of.
+pub inside-fit : {W k a n x : ℕ} → Range W k a n → x + 1 ≤ W * k → Fit W k 1 x
+inside-fit {W} {x = x} r l = record { aligned = aligned (mod-one W) (mod-one x); range = record { few = r .few; inside = l } }

@@ -6,5 +6,6 @@ pub mod Misaligned
 pub mod Phases
 pub mod Passed
 pub mod Tests
+pub mod Rooms
 pub mod FillByte
 pub mod Kept

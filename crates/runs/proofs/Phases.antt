@@ -15,9 +15,9 @@ use Rattle.runs.specs.Asked.{Both}
 use Rattle.model.specs.Fit.{Range}
 use Rattle.model.specs.Lists.{cursor, past, pairs, misaligned, near, wholeWords, threshold, head, phases, run, along, stores, fillPhases, fillList}
 use Rattle.model.specs.Perform.{moving, filling}
-use Rattle.runs.specs.Ran.{Ran}
+use Rattle.runs.specs.Ran.{Lent, Ran}
 use Rattle.model.specs.Tally.{tally, joined, Joinable}
-use Rattle.runs.proofs.RanLaws.{ran-none, ran-then, ran-together, ran-joinable}
+use Rattle.runs.proofs.RanLaws.{ran-none, ran-then, ran-together}
 use Rattle.model.proofs.TallyLaws.{joinable}
 use Rattle.lists.specs.Sizes.{Core}
 use Rattle.runs.proofs.Asking.{both-start, both-past}
@@ -28,13 +28,13 @@ use Rattle.lists.proofs.Cursors.{past-none, past-past}
 
 -- ---- the words
 
-module _ {W : ℕ} {give : (ℕ → ℕ) → ℕ → ℕ} {ws ws' : List ℕ} {a : Work} (up : Bool) (d s w : ℕ) where
-  pub words-aligned : s % W ≡ 0 → Ran W give (pairs up W d s w) ws ws' a → Ran W give (wholeWords up W d s w) ws ws' a
+module _ {W : ℕ} {give : (ℕ → ℕ) → ℕ → ℕ} {z z' : Lent} {a : Work} (up : Bool) (d s w : ℕ) where
+  pub words-aligned : s % W ≡ 0 → Ran W give (pairs up W d s w) z z' a → Ran W give (wholeWords up W d s w) z z' a
   unfolding wholeWords
   words-aligned e r = rw (eq-eqb (s % W) 0 e) r
 
-  pub words-misaligned : 0 < s % W → Ran W give (misaligned up W d s (near up W (s % W)) (w - 1)) ws ws' a
-      → Ran W give (wholeWords up W d s w) ws ws' a
+  pub words-misaligned : 0 < s % W → Ran W give (misaligned up W d s (near up W (s % W)) (w - 1)) z z' a
+      → Ran W give (wholeWords up W d s w) z z' a
   unfolding wholeWords
   words-misaligned l r = rw (ne-eqb (s % W) 0 (λ e. omega arith)) r
 
@@ -68,16 +68,16 @@ parts {W} p up d n l =
     }
 
 -- The cursors of dest and src have advanced to d' and s', together; n' bytes are left, and they are the tail.
-pub record Begun (up : Bool) (W dest src n d' s' n' : ℕ) (ws ws' : List ℕ) (work : Work) : Type 0 where
+pub record Begun (up : Bool) (W dest src n d' s' n' : ℕ) (z z' : Lent) (work : Work) : Type 0 where
   pub done : List Access
-  pub ran : Ran W (moving dest src) done ws ws' work
+  pub ran : Ran W (moving dest src) done z z' work
   pub rest : along up W dest src n ≡ done ++ pairs up 1 d' s' n'
-  pub ahead : Both up W (length ws') d' s' n'
+  pub ahead : Both up W (length (z' .words)) d' s' n'
   pub apart : d' + src ≡ s' + dest
 
 -- Below the threshold nothing is done yet: all n bytes are the tail.
-pub begun-short : {W dest src n : ℕ} {ws : List ℕ} {a : Work} (up : Bool) → n < threshold W
-    → Range W (length ws) dest n × Range W (length ws) src n → a ≡ tally [] → Begun up W dest src n (cursor up dest n) (cursor up src n) n ws ws a
+pub begun-short : {W dest src n : ℕ} {z : Lent} {a : Work} (up : Bool) → n < threshold W
+    → Range W (length (z .words)) dest n × Range W (length (z .words)) src n → a ≡ tally [] → Begun up W dest src n (cursor up dest n) (cursor up src n) n z z a
 unfolding along run
 begun-short {dest = dest} {src} {n} up l p e = record {
   done = [];
@@ -96,12 +96,12 @@ pub head-ahead : {W k d s n h : ℕ} (up : Bool) → Both up W k d s n → h ≤
 head-ahead up b l = both-past up 0 refl (sym (past-none up _)) (sym (past-none up _)) (omega arith) b
 
 -- At the threshold and above it the head and the words are done.
-module _ {W n h m t d₁ s₁ d₂ s₂ : ℕ} {ws ws' ws'' : List ℕ} {a b : Work} (dest src : ℕ) where
+module _ {W n h m t d₁ s₁ d₂ s₂ : ℕ} {z z' z'' : Lent} {a b : Work} (dest src : ℕ) where
   pub begun-long : {c : Work} (up : Bool) → Parts up W (cursor up dest n) n h m t
-      → Both up W (length ws) (cursor up dest n) (cursor up src n) n
+      → Both up W (length (z .words)) (cursor up dest n) (cursor up src n) n
       → d₁ ≡ past up (cursor up dest n) h → s₁ ≡ past up (cursor up src n) h → d₂ ≡ past up d₁ m → s₂ ≡ past up s₁ m
-      → Ran W (moving (cursor up dest n) (cursor up src n)) (pairs up 1 (cursor up dest n) (cursor up src n) h) ws ws' a
-      → Ran W (moving d₁ s₁) (wholeWords up W d₁ s₁ (m / W)) ws' ws'' b → c ≡ joined a b → Begun up W dest src n d₂ s₂ t ws ws'' c
+      → Ran W (moving (cursor up dest n) (cursor up src n)) (pairs up 1 (cursor up dest n) (cursor up src n) h) z z' a
+      → Ran W (moving d₁ s₁) (wholeWords up W d₁ s₁ (m / W)) z' z'' b → c ≡ joined a b → Begun up W dest src n d₂ s₂ t z z'' c
   unfolding along run phases
   begun-long {c} up p both i j k l r q f = record {
     done = pairs up 1 (cursor up dest n) (cursor up src n) h ++ wholeWords up W d₁ s₁ (m / W);
@@ -120,18 +120,17 @@ module _ {W n h m t d₁ s₁ d₂ s₂ : ℕ} {ws ws' ws'' : List ℕ} {a b : W
       level true g o u v = omega arith
       level false g o u v = omega arith
 
-      all : Ran W (moving dest src) (pairs up 1 (cursor up dest n) (cursor up src n) h ++ wholeWords up W d₁ s₁ (m / W)) ws ws'' c
+      all : Ran W (moving dest src) (pairs up 1 (cursor up dest n) (cursor up src n) h ++ wholeWords up W d₁ s₁ (m / W)) z z'' c
       all =
           ran-then (ran-together (cursor up dest n) (cursor up src n) dest src
           (level up 0 (omega arith) (sym (past-none up _)) (sym (past-none up _))) r)
           (ran-together d₁ s₁ dest src (level up h (omega (arith, p .sum)) i j) q) f
 
 -- The records of the head and of the words can be joined: a copy has at most two accesses for each byte.
-pub phases-joinable : {W d n h m t : ℕ} {ws ws' ws'' : List ℕ} {give give' : (ℕ → ℕ) → ℕ → ℕ} {a b : Work} → Core W
-    → (up : Bool) (s d₁ s₁ : ℕ) → Parts up W d n h m t → n < 2 ^ 62 → Ran W give (pairs up 1 d s h) ws ws' a
-    → Ran W give' (wholeWords up W d₁ s₁ (m / W)) ws' ws'' b → Joinable a b
+pub phases-joinable : {W d n h m t : ℕ} {a b : Work} → Core W → (up : Bool) (s d₁ s₁ : ℕ) → Parts up W d n h m t → n < 2 ^ 62
+    → a ≡ tally (pairs up 1 d s h) → b ≡ tally (wholeWords up W d₁ s₁ (m / W)) → Joinable a b
 phases-joinable {W} {d} {h = h} {m} core up s d₁ s₁ p few r q =
-    joinable (pairs up 1 d s h) (wholeWords up W d₁ s₁ (m / W)) (r .counted) (q .counted)
+    joinable (pairs up 1 d s h) (wholeWords up W d₁ s₁ (m / W)) r q
     (omega (
       arith,
       pairs-length up 1 d s h,
@@ -141,50 +140,49 @@ phases-joinable {W} {d} {h = h} {m} core up s d₁ s₁ p few r q =
     ))
 
 -- The tail is done, and so the whole list.
-pub begun-done : {W dest src n d' s' n' : ℕ} {ws ws' ws'' : List ℕ} {a b c : Work} {up : Bool}
-    → Begun up W dest src n d' s' n' ws ws' a → Ran W (moving d' s') (pairs up 1 d' s' n') ws' ws'' b → c ≡ joined a b
-    → Ran W (moving dest src) (along up W dest src n) ws ws'' c
+pub begun-done : {W dest src n d' s' n' : ℕ} {z z' z'' : Lent} {a b c : Work} {up : Bool}
+    → Begun up W dest src n d' s' n' z z' a → Ran W (moving d' s') (pairs up 1 d' s' n') z' z'' b → c ≡ joined a b
+    → Ran W (moving dest src) (along up W dest src n) z z'' c
 begun-done {dest = dest} {src} {d' = d'} {s'} p r j = rw (p .rest) (ran-then (p .ran) (ran-together d' s' dest src (p .apart) r) j)
 
-pub begun-joinable : {W dest src n d' s' n' : ℕ} {ws ws' ws'' : List ℕ} {a b : Work} {up : Bool} → Core W
-    → (p : Begun up W dest src n d' s' n' ws ws' a) → Ran W (moving d' s') (pairs up 1 d' s' n') ws' ws'' b → n < 2 ^ 62 → Joinable a b
+pub begun-joinable : {W dest src n d' s' n' : ℕ} {z z' : Lent} {a b : Work} {up : Bool} → Core W → (p : Begun up W dest src n d' s' n' z z' a)
+    → b ≡ tally (pairs up 1 d' s' n') → n < 2 ^ 62 → Joinable a b
 begun-joinable {dest = dest} {src} {n} {d'} {s'} {n'} {up = up} core p r few =
-    joinable (p .done) (pairs up 1 d' s' n') (p .ran .counted) (r .counted)
+    joinable (p .done) (pairs up 1 d' s' n') (p .ran .recorded .counted) r
     (omega (arith, along-few core up dest src n, ap length (p .rest), length-append (p .done) (pairs up 1 d' s' n')))
 
 -- ---- the parts of a fill
 
 -- n' bytes are left from s' on, and they are the tail.
-pub record FillBegun (W b s n s' n' : ℕ) (ws ws' : List ℕ) (work : Work) : Type 0 where
+pub record FillBegun (W b s n s' n' : ℕ) (z z' : Lent) (work : Work) : Type 0 where
   pub done : List Access
-  pub ran : Ran W (filling b) done ws ws' work
+  pub ran : Ran W (filling b) done z z' work
   pub rest : fillList W s n ≡ done ++ stores 1 s' n'
-  pub ahead : Range W (length ws') s' n'
+  pub ahead : Range W (length (z' .words)) s' n'
 
-pub fill-short : {W b s n : ℕ} {ws : List ℕ} {a : Work} → n < threshold W → Range W (length ws) s n → a ≡ tally []
-    → FillBegun W b s n s n ws ws a
+pub fill-short : {W b s n : ℕ} {z : Lent} {a : Work} → n < threshold W → Range W (length (z .words)) s n → a ≡ tally []
+    → FillBegun W b s n s n z z a
 unfolding fillList
 fill-short {n = n} l r e = record { done = []; ran = ran-none e; rest = simp (lt-ltb n _ l); ahead = r }
 
-pub fill-long : {W b s n h m t s₁ s₂ : ℕ} {ws ws' ws'' : List ℕ} {a e c : Work} → Parts true W s n h m t
-    → Range W (length ws) s n → s₁ ≡ s + h → s₂ ≡ s₁ + m → Ran W (filling b) (stores 1 s h) ws ws' a
-    → Ran W (filling b) (stores W s₁ (m / W)) ws' ws'' e → c ≡ joined a e → FillBegun W b s n s₂ t ws ws'' c
+pub fill-long : {W b s n h m t s₁ s₂ : ℕ} {z z' z'' : Lent} {a e c : Work} → Parts true W s n h m t
+    → Range W (length (z .words)) s n → s₁ ≡ s + h → s₂ ≡ s₁ + m → Ran W (filling b) (stores 1 s h) z z' a
+    → Ran W (filling b) (stores W s₁ (m / W)) z' z'' e → c ≡ joined a e → FillBegun W b s n s₂ t z z'' c
 unfolding fillList fillPhases
-fill-long {W} {b} {s} {n} {h} {m} {t} {s₁} {ws = ws} {ws'' = ws''} {c = c} p r i k q v j = record {
+fill-long {W} {b} {s} {n} {h} {m} {t} {s₁} {z = z} {z'' = z''} {c = c} p r i k q v j = record {
   done = stores 1 s h ++ stores W s₁ (m / W);
   ran = all;
   rest = rw (le-ltb n (threshold W) (p .long), ← p .first, ← p .count, ← p .last, ← i, p .words, ← k) refl;
   ahead = rw (all .size) record { few = r .few; inside = omega (arith, r .inside, p .sum) };
 }
   where
-    all : Ran W (filling b) (stores 1 s h ++ stores W s₁ (m / W)) ws ws'' c
+    all : Ran W (filling b) (stores 1 s h ++ stores W s₁ (m / W)) z z'' c
     all = ran-then q v j
 
-pub fill-phases-joinable : {W s n h m t : ℕ} {ws ws' ws'' : List ℕ} {give : (ℕ → ℕ) → ℕ → ℕ} {a b : Work} → Core W → (s₁ : ℕ)
-    → Parts true W s n h m t → n < 2 ^ 62 → Ran W give (stores 1 s h) ws ws' a → Ran W give (stores W s₁ (m / W)) ws' ws'' b
-    → Joinable a b
+pub fill-phases-joinable : {W s n h m t : ℕ} {a b : Work} → Core W → (s₁ : ℕ) → Parts true W s n h m t → n < 2 ^ 62
+    → a ≡ tally (stores 1 s h) → b ≡ tally (stores W s₁ (m / W)) → Joinable a b
 fill-phases-joinable {W} {s} {h = h} {m} core s₁ p few r q =
-    ran-joinable r q
+    joinable (stores 1 s h) (stores W s₁ (m / W)) r q
     (omega (
       arith,
       stores-length 1 s h,
@@ -193,12 +191,12 @@ fill-phases-joinable {W} {s} {h = h} {m} core s₁ p few r q =
       div-le-self m W,
     ))
 
-pub fill-done : {W b s n s' n' : ℕ} {ws ws' ws'' : List ℕ} {a e c : Work} → FillBegun W b s n s' n' ws ws' a
-    → Ran W (filling b) (stores 1 s' n') ws' ws'' e → c ≡ joined a e → Ran W (filling b) (fillList W s n) ws ws'' c
+pub fill-done : {W b s n s' n' : ℕ} {z z' z'' : Lent} {a e c : Work} → FillBegun W b s n s' n' z z' a
+    → Ran W (filling b) (stores 1 s' n') z' z'' e → c ≡ joined a e → Ran W (filling b) (fillList W s n) z z'' c
 fill-done p r j = rw (p .rest) (ran-then (p .ran) r j)
 
-pub fill-joinable : {W b s n s' n' : ℕ} {ws ws' ws'' : List ℕ} {a e : Work} → Core W → (p : FillBegun W b s n s' n' ws ws' a)
-    → Ran W (filling b) (stores 1 s' n') ws' ws'' e → n < 2 ^ 62 → Joinable a e
+pub fill-joinable : {W b s n s' n' : ℕ} {z z' : Lent} {a e : Work} → Core W → (p : FillBegun W b s n s' n' z z' a)
+    → e ≡ tally (stores 1 s' n') → n < 2 ^ 62 → Joinable a e
 fill-joinable {W} {s = s} {n} {s'} {n'} core p r few =
-    ran-joinable (p .ran) r
+    joinable (p .done) (stores 1 s' n') (p .ran .recorded .counted) r
     (omega (arith, fill-few core s n, ap length (p .rest), length-append (p .done) (stores 1 s' n')))

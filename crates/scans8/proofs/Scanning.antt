@@ -1,6 +1,6 @@
 -- What a scan that has stopped answers; and a scan of the words from the one that holds the start, as one of the whole memory.
 -- Assumes nothing.
-use mathlib.Core.Path.{_≡_, sym, ap, ap₂, _∙_}
+use mathlib.Core.Path.{_≡_, sym, ap, ap₂, subst, _∙_}
 use mathlib.Core.List.{List}
 use Prim.Native.Nat.{ℕ, _+_, _-_, _/_, _%_, _<_}
 use native.Mathlib.Omega.{arith}
@@ -13,35 +13,36 @@ use Rattle.model.specs.Meaning.{isNull, strlen}
 use Rattle.model.specs.Memory.{view}
 use Rattle.runs.specs.Ran.{Found}
 use Rattle.model.specs.Refusals.{toEnd, zeroAt}
-use Rattle.model.specs.Tally.{tally}
+use Rattle.model.specs.Access.{Access}
+use Rattle.model.specs.Log.{Log, Recorded}
 use Rattle.model.proofs.MemoryLaws.{view-drop}
 use Rattle.words8.specs.Word.{W}
-use Rattle.runs.proofs.Passed.{Stopped, byteAt, string-counted, strlen-moved, string-moved}
+use Rattle.runs.proofs.Passed.{Stopped, byteAt, string-recorded, strlen-moved}
 use Rattle.scans8.specs.declared.Scan.{Scan}
 use Rattle.scans8.specs.declared.Scan.the-variants.{Length, NoZero}
 use Rattle.scans8.specs.Scans.{scanOf}
 
-pub scan-found : {n i : ℕ} {a : Work} (f : ℕ → ℕ) (s : ℕ) → Stopped (isNull s f) (byteAt s) n i a → i < n
-    → Found (scanOf (strlen s n f) n) (stringList s n (strlen s n f)) (Length i) a
+pub scan-found : {n i : ℕ} {g g' : Log} {a : Work} (f : ℕ → ℕ) (s : ℕ) → Stopped (isNull s f) (byteAt s) n i g g' a → i < n
+    → Found (scanOf (strlen s n f) n) (stringList s n (strlen s n f)) g g' (Length i) a
 scan-found {n} {i} f s p l =
-    record { found = sym (ap (λ (z : ℕ). scanOf z n) (p .place) ∙ simp (lt-ltb i n l)); counted = string-counted f s p }
+    record { found = sym (ap (λ (z : ℕ). scanOf z n) (p .place) ∙ simp (lt-ltb i n l)); recorded = string-recorded f s p }
 
-pub scan-none : {n : ℕ} {a : Work} (f : ℕ → ℕ) (s : ℕ) → Stopped (isNull s f) (byteAt s) n n a
-    → Found (scanOf (strlen s n f) n) (stringList s n (strlen s n f)) NoZero a
+pub scan-none : {n : ℕ} {g g' : Log} {a : Work} (f : ℕ → ℕ) (s : ℕ) → Stopped (isNull s f) (byteAt s) n n g g' a
+    → Found (scanOf (strlen s n f) n) (stringList s n (strlen s n f)) g g' NoZero a
 scan-none {n} f s p =
-    record { found = sym (ap (λ (z : ℕ). scanOf z n) (p .place) ∙ simp (le-ltb n n (omega arith))); counted = string-counted f s p }
+    record { found = sym (ap (λ (z : ℕ). scanOf z n) (p .place) ∙ simp (le-ltb n n (omega arith))); recorded = string-recorded f s p }
 
 -- All that is left from word i on, as the code takes it.
 pub rest-all : (ws : List ℕ) (i : ℕ) → take (length ws - i) (drop i ws) ≡ drop i ws
 rest-all ws i = ap (λ (n : ℕ). take n (drop i ws)) (sym (length-drop i ws)) ∙ take-length (drop i ws)
 
 -- s / W and s % W: where the start's word stands, and the start in it.
-pub scan-moved : {r : Scan} {a : Work} (ws part : List ℕ) (s s' : ℕ) → part ≡ drop (s / W) ws → s' ≡ s % W
-    → Found (scanOf (zeroAt W part s') (toEnd W part s')) (stringList s' (toEnd W part s') (zeroAt W part s')) r a
-    → Found (scanOf (zeroAt W ws s) (toEnd W ws s)) (stringList s (toEnd W ws s) (zeroAt W ws s)) r a
-scan-moved ws part s s' e f p = record {
+pub scan-moved : {r : Scan} {g g' : Log} {a : Work} (ws part : List ℕ) (s s' : ℕ) → part ≡ drop (s / W) ws → s' ≡ s % W
+    → Found (scanOf (zeroAt W part s') (toEnd W part s')) (stringList s' (toEnd W part s') (zeroAt W part s')) g g' r a
+    → Found (scanOf (zeroAt W ws s) (toEnd W ws s)) (stringList s' (toEnd W ws s) (zeroAt W ws s)) g g' r a
+scan-moved {g = g} {g'} {a} ws part s s' e f p = record {
   found = p .found ∙ ap₂ scanOf zeros ends;
-  counted = p .counted ∙ string-moved s' s (toEnd W part s') (zeroAt W part s') ∙ ap₂ (λ (m z : ℕ). tally (stringList s m z)) ends zeros;
+  recorded = subst (λ (xs : List Access). Recorded xs g g' a) (ap₂ (stringList s') ends zeros) (p .recorded);
 }
   where
     ends : toEnd W part s' ≡ toEnd W ws s

@@ -2,3 +2,5 @@ pub mod Writing
 pub mod TextLengths
 pub mod NumberLaws
 pub mod CountLaws
+pub mod LogLaws
+pub mod Counted

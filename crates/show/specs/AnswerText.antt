@@ -30,9 +30,13 @@ loadsText ns = codes " loads " ++ fourCounts ns 0
 abbrev pub storesText : List ℕ → List ℕ
 storesText ns = codes " stores " ++ fourCounts ns 4
 
+-- What an answer says, which every line of an answer begins with: words that are added to it stand here.
+unfoldable pub replyText : Reply → List ℕ
+replyText r = saidText (r .said) ++ (loadsText (r .counts) ++ storesText (r .counts))
+
 -- The line, with the newline that ends it.
 unfoldable pub answerText : Reply → List ℕ
-answerText r = saidText (r .said) ++ (loadsText (r .counts) ++ (storesText (r .counts) ++ codes "\n"))
+answerText r = replyText r ++ codes "\n"
 
 -- The words that stand before an outcome's number. The sign of a number below 0 goes with its word.
 abbrev pub outcomeWords : List ℕ

@@ -22,6 +22,20 @@ mostSlashed = 1 + mostNumber
 abbrev pub mostCounts : ℕ
 mostCounts = mostNumber + 3 * mostSlashed
 
--- The line, with its newline.
+-- What an answer says; the line, with its newline.
+abbrev pub mostReply : ℕ
+mostReply = mostOutcome + (length (codes " loads ") + mostCounts) + (length (codes " stores ") + mostCounts)
+
 abbrev pub mostAnswer : ℕ
-mostAnswer = mostOutcome + (length (codes " loads ") + mostCounts) + (length (codes " stores ") + mostCounts) + 1
+mostAnswer = mostReply + 1
+
+-- A number of 32 bits; one after a space.
+abbrev pub mostShort : ℕ
+mostShort = 10
+
+abbrev pub mostSpaced : ℕ
+mostSpaced = 1 + mostShort
+
+-- The line of a logged call, where the log has so many numbers.
+abbrev pub mostLogged : ℕ → ℕ
+mostLogged room = mostAnswer + length (codes " log") + room * mostSpaced

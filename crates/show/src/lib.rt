@@ -2,6 +2,7 @@
 // wrote.
 mod write;
 
+use crate::write::write_spaced;
 use crate::write::write_worded;
 use libc::STDOUT_FILENO;
 use model::Answer;
@@ -10,13 +11,15 @@ use texts::text_at;
 pub use write::write_byte;
 pub use write::write_decimal;
 pub use write::write_text;
+ghost use mathlib.Core.Path.{_≡_};
 ghost use mathlib.Core.List.{_++_};
-ghost use Prim.Native.Nat.{_+_, _≤_};
-ghost use lib.ListN.{length};
+ghost use Prim.Native.Nat.{_+_, _*_, _^_, _<_, _≤_};
+ghost use lib.ListN.{length, take};
 ghost use Rattle.model.specs.Answers.{answered, saidOf, a-number};
 ghost use Rattle.show.specs.Written.{Room, Wrote};
-ghost use Rattle.show.specs.AnswerText.{fourCounts, saidText, answerText, Parted};
-ghost use Rattle.show.specs.Sizes.{mostOutcome, mostCounts, mostAnswer};
+ghost use Rattle.show.specs.AnswerText.{fourCounts, saidText, replyText, answerText, Parted};
+ghost use Rattle.show.specs.LoggedText.{sumOf, written, listText, loggedText};
+ghost use Rattle.show.specs.Sizes.{mostOutcome, mostCounts, mostReply, mostAnswer, mostSpaced, mostLogged};
 
 // The longest answer, with its newline.
 const MOST_ANSWER: usize = 210;
@@ -92,19 +95,70 @@ fn write_counts(out: &mut [u8], at: usize, word: &[u8], numbers: [u64; 8], first
     past
 }
 
-// The outcome, what was counted, and the end of the line.
-pub fn write_answer(out: &mut [u8], at: usize, answer: Answer) -> usize
-    requires { ⌜ Room mostAnswer at (now out) ⌝ }
-    ensures { λ r. ⌜ Wrote (answerText (answered answer)) at (now (out .entry)) (now (out .exit)) r ⌝ }
+// The outcome, and what was counted.
+fn write_reply(out: &mut [u8], at: usize, answer: Answer) -> usize
+    requires { ⌜ Room mostReply at (now out) ⌝ }
+    ensures { λ r. ⌜ Wrote (replyText (answered answer)) at (now (out .entry)) (now (out .exit)) r ⌝ }
 {
     let outcome = answer.outcome;
     let counts = answer.counts;
     let numbers = counts.numbers;
     let said = write_outcome(out, at, outcome);
     let loaded = write_counts(out, said, b" loads ", numbers, 0);
-    let stored = write_counts(out, loaded, b" stores ", numbers, 4);
-    out[stored] = b'\n';
-    stored + 1
+    write_counts(out, loaded, b" stores ", numbers, 4)
+}
+
+// The answer, and the end of the line.
+pub fn write_answer(out: &mut [u8], at: usize, answer: Answer) -> usize
+    requires { ⌜ Room mostAnswer at (now out) ⌝ }
+    ensures { λ r. ⌜ Wrote (answerText (answered answer)) at (now (out .entry)) (now (out .exit)) r ⌝ }
+{
+    let said = write_reply(out, at, answer);
+    out[said] = b'\n';
+    said + 1
+}
+
+// How many accesses were counted.
+fn sum(numbers: [u64; 8]) -> u64
+    requires { ⌜ sumOf numbers 8 < 2 ^ 64 ⌝ }
+    ensures { λ r. ⌜ r ≡ sumOf numbers 8 ⌝ }
+{
+    let mut sum = 0;
+    let mut i = 0;
+    while i < 8 {
+        sum += numbers[i];
+        i += 1;
+    }
+    sum
+}
+
+// The first numbers of a log.
+fn write_log(out: &mut [u8], at: usize, log: &[u32], count: usize) -> usize
+    requires { ⌜ (count ≤ length (now log)) × (Room (count * mostSpaced) at (now out)) ⌝ }
+    ensures { λ r. ⌜ Wrote (listText (take count (now (log .entry)))) at (now (out .entry)) (now (out .exit)) r ⌝ }
+{
+    let mut past = at;
+    let mut i = 0;
+    while i < count {
+        past = write_spaced(out, past, log[i]);
+        i += 1;
+    }
+    past
+}
+
+// The answer of a logged call: the plain one, and the numbers that it wrote into its log, one for each access.
+pub fn write_logged(out: &mut [u8], at: usize, answer: Answer, log: &[u32]) -> usize
+    requires { ⌜ (written (answered answer) ≤ length (now log)) × (Room (mostLogged (length (now log))) at (now out)) ⌝ }
+    ensures { λ r. ⌜ Wrote (loggedText (answered answer) (now (log .entry))) at (now (out .entry)) (now (out .exit)) r ⌝ }
+{
+    let counts = answer.counts;
+    let numbers = counts.numbers;
+    let count = sum(numbers) as usize;
+    let said = write_reply(out, at, answer);
+    let word = write_text(out, said, b" log");
+    let listed = write_log(out, word, log, count);
+    out[listed] = b'\n';
+    listed + 1
 }
 
 // The name of a call, and its answer: a line for each call.

@@ -6,7 +6,8 @@ ghost use lib.ListN.{length};
 ghost use Rattle.io.specs.Digits.{glyph};
 ghost use Rattle.show.specs.Written.{Room, Wrote};
 ghost use Rattle.show.specs.Numbers.{decimal, hexByte};
-ghost use Rattle.show.specs.Sizes.{mostNumber};
+ghost use Rattle.show.specs.LoggedText.{spaced};
+ghost use Rattle.show.specs.Sizes.{mostNumber, mostSpaced};
 
 // The text as it stands.
 pub fn write_text(out: &mut [u8], at: usize, text: &[u8]) -> usize
@@ -21,13 +22,31 @@ pub fn write_text(out: &mut [u8], at: usize, text: &[u8]) -> usize
     at + i
 }
 
-pub fn write_decimal(out: &mut [u8], at: usize, n: u64) -> usize
-    requires { ⌜ Room mostNumber at (now out) ⌝ }
+// A number that there is just room for.
+fn write_digits(out: &mut [u8], at: usize, n: u64) -> usize
+    requires { ⌜ Room (length (decimal n)) at (now out) ⌝ }
     ensures { λ r. ⌜ Wrote (decimal n) at (now (out .entry)) (now (out .exit)) r ⌝ }
 {
     let mut digits = [0u8; 20];
     let k = io::decimal(n, &mut digits);
     write_text(out, at, &digits[..k])
+}
+
+// Any number.
+pub fn write_decimal(out: &mut [u8], at: usize, n: u64) -> usize
+    requires { ⌜ Room mostNumber at (now out) ⌝ }
+    ensures { λ r. ⌜ Wrote (decimal n) at (now (out .entry)) (now (out .exit)) r ⌝ }
+{
+    write_digits(out, at, n)
+}
+
+// A number of 32 bits after a space. It has few digits, so that little room is wanted.
+pub fn write_spaced(out: &mut [u8], at: usize, n: u32) -> usize
+    requires { ⌜ Room mostSpaced at (now out) ⌝ }
+    ensures { λ r. ⌜ Wrote (spaced n) at (now (out .entry)) (now (out .exit)) r ⌝ }
+{
+    out[at] = b' ';
+    write_digits(out, at + 1, n as u64)
 }
 
 // A word, and a number behind it.

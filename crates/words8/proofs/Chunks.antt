@@ -16,9 +16,10 @@ use Rattle.model.specs.Fit.{Fit}
 use Rattle.model.specs.Lists.{made, chunks}
 use Rattle.model.specs.Memory.{readLE, view}
 use Rattle.runs.specs.Ran.{Found}
+use Rattle.model.specs.Log.{Log}
 use Rattle.model.specs.Tally.{tally, joined}
 use Rattle.model.proofs.MemoryLaws.{view-lt}
-use Rattle.runs.proofs.RanLaws.{counted-then}
+use Rattle.model.proofs.LogLaws.{recorded-none, recorded-then}
 use Rattle.model.proofs.ShiftLaws.{stacked}
 use Rattle.model.proofs.Widths.{allBelow, below}
 use Rattle.model.proofs.WordLaws.{width-some}
@@ -60,41 +61,42 @@ pub record Set (ws : List ℕ) (w src dst m offset : ℕ) : Type 0 where
   pub room : dst + offset + w ≤ W
   pub some : 0 < w
 
-pub asked-set : {ws : List ℕ} {w src dst m : ℕ} {p : Loading} → ChunkAsked ws w src dst m p → (bitAnd m w ≡ 0 → ⊥)
+pub asked-set : {ws : List ℕ} {w src dst m : ℕ} {g : Log} {p : Loading} → ChunkAsked ws w src dst m g p → (bitAnd m w ≡ 0 → ⊥)
     → Set ws w src dst m (p .offset)
 asked-set {w = w} {m = m} a n =
     let d : m / w % 2 ≡ 1 = digit-set m w (a .less) (a .divides) n in
     record { digit = d; fit = a .fits d; room = a .room d; some = width-some (omega arith) (a .fits d .aligned) }
 
-pub none-loaded : {f : ℕ → ℕ} {w src dst m : ℕ} {p : Loading} → m / w % 2 ≡ 0 → ChunkDone f w src dst m p p
+pub none-loaded : {f : ℕ → ℕ} {w src dst m : ℕ} {g : Log} {p : Loading} → m / w % 2 ≡ 0 → ChunkDone f w src dst m g g p p
 none-loaded {w = w} e = record { offset = rw (e, mul-zero w) (omega arith); so = λ xs s. rw (e, append-nil xs) s }
 
-pub one-loaded : {ws : List ℕ} {w src dst m : ℕ} {p : Loading} {v s : ℕ} {a b : Work}
-    → Set ws w src dst m (p .offset) → Found (readLE (view W ws) (src + p .offset) w) (load w (src + p .offset) ∷ []) v a
+pub one-loaded : {ws : List ℕ} {w src dst m : ℕ} {g g' : Log} {p : Loading} {v s : ℕ} {a b : Work}
+    → Set ws w src dst m (p .offset) → Found (readLE (view W ws) (src + p .offset) w) (load w (src + p .offset) ∷ []) g g' v a
     → s ≡ 8 * (dst + p .offset) → b ≡ joined (p .work) a
-    → ChunkDone (view W ws) w src dst m p (record { out = bitOr (p .out) (v * 2 ^ s % 2 ^ (8 * W)); offset = p .offset + w; work = b })
-one-loaded {ws} {w} {src} {dst} {m} {p} set found shift work = record {
+    → ChunkDone (view W ws) w src dst m g g' p (record { out = bitOr (p .out) (v * 2 ^ s % 2 ^ (8 * W)); offset = p .offset + w; work = b })
+one-loaded {ws} {w} {src} {dst} {m} {p = p} set found shift work = record {
   offset = rw (set .digit, mul-one w);
   so = λ xs s. rw (set .digit) record {
     few = simp length-append (omega (arith, s .few, set .some));
     out = rw (s .out, found .found) (stacked W (view W ws) (view-lt W ws) src dst (p .offset) w (set .room) shift);
-    counted = counted-then xs (load w (src + p .offset) ∷ []) (s .counted) (found .counted) work;
+    recorded = recorded-then (s .recorded) (found .recorded) work;
   };
 }
 
 -- ---- three chunks
 
 -- Nothing is loaded yet.
-pub at-start : {f : ℕ → ℕ} {src dst : ℕ} {a : Work} → a ≡ tally [] → SoFar f src dst [] (record { out = 0; offset = 0; work = a })
+pub at-start : {f : ℕ → ℕ} {src dst : ℕ} {g : Log} {a : Work} → a ≡ tally [] → SoFar f src dst [] g g (record { out = 0; offset = 0; work = a })
 unfolding readLE
-at-start e = record { few = omega arith; out = omega arith; counted = e }
+at-start e = record { few = omega arith; out = omega arith; recorded = recorded-none e }
 
 -- The next chunk: its address is a multiple of its size, and it ends inside the part.
-pub asked : {ws : List ℕ} {src a dst m : ℕ} {xs : List Access} {p : Loading} {w : ℕ} → W % w ≡ 0
-    → PartOf (length ws) src dst m → a ≡ src + dst → dst + m ≤ W → SoFar (view W ws) a dst xs p
-    → (m / w % 2 ≡ 1 → ((a + p .offset) % w ≡ 0) × (p .offset + w ≤ m)) → ChunkAsked ws w a dst m p
-asked {xs = xs} divides part e l s h = record {
+pub asked : {ws : List ℕ} {src a dst m : ℕ} {xs : List Access} {start g : Log} {p : Loading} {w : ℕ} → W % w ≡ 0
+    → PartOf (length ws) src dst m → a ≡ src + dst → dst + m ≤ W → SoFar (view W ws) a dst xs start g p
+    → (m / w % 2 ≡ 1 → ((a + p .offset) % w ≡ 0) × (p .offset + w ≤ m)) → ChunkAsked ws w a dst m g p
+asked {xs = xs} {start} divides part e l s h = record {
   xs = xs;
+  start = start;
   so = s;
   divides = divides;
   less = part .less;
@@ -106,21 +108,21 @@ asked {xs = xs} divides part e l s h = record {
 }
 
 -- By the widths u, v and w, in that order: the bytes that have been placed, and the list of the loads.
-pub three-chunks : {f : ℕ → ℕ} {src dst m : ℕ} {p q r t : Loading} (u v w : ℕ) → p .offset ≡ 0 → SoFar f src dst [] p
-    → ChunkDone f u src dst m p q → ChunkDone f v src dst m q r → ChunkDone f w src dst m r t
+pub three-chunks : {f : ℕ → ℕ} {src dst m : ℕ} {g g₁ g₂ g₃ : Log} {p q r t : Loading} (u v w : ℕ) → p .offset ≡ 0
+    → SoFar f src dst [] g g p → ChunkDone f u src dst m g g₁ p q → ChunkDone f v src dst m g₁ g₂ q r → ChunkDone f w src dst m g₂ g₃ r t
     → u * (m / u % 2) + v * (m / v % 2) + w * (m / w % 2) ≡ m
-    → Found (readLE f src m * 256 ^ dst) (chunks src m (u ∷ v ∷ w ∷ [])) (t .out) (t .work)
+    → Found (readLE f src m * 256 ^ dst) (chunks src m (u ∷ v ∷ w ∷ [])) g g₃ (t .out) (t .work)
 unfolding chunks
-three-chunks {f} {src} {dst} {m} {p} {q} {r} {t} u v w z s d e g sum = record {
-  found = done .out ∙ ap (λ (n : ℕ). readLE f src n * 256 ^ dst) (omega (arith, d .offset, e .offset, g .offset));
-  counted = done .counted ∙ ap tally list;
+three-chunks {f} {src} {dst} {m} {g} {g₃ = g₃} {p} {q} {r} {t} u v w z s d e h sum = record {
+  found = done .out ∙ ap (λ (n : ℕ). readLE f src n * 256 ^ dst) (omega (arith, d .offset, e .offset, h .offset));
+  recorded = rw (← list) (done .recorded);
 }
   where
     loaded : ℕ → ℕ → List Access
     loaded x a = made (m / x % 2) (load x a)
 
-    done : SoFar f src dst ((loaded u (src + p .offset) ++ loaded v (src + q .offset)) ++ loaded w (src + r .offset)) t
-    done = g .so (loaded u (src + p .offset) ++ loaded v (src + q .offset)) (e .so (loaded u (src + p .offset)) (d .so [] s))
+    done : SoFar f src dst ((loaded u (src + p .offset) ++ loaded v (src + q .offset)) ++ loaded w (src + r .offset)) g g₃ t
+    done = h .so (loaded u (src + p .offset) ++ loaded v (src + q .offset)) (e .so (loaded u (src + p .offset)) (d .so [] s))
 
     list : (loaded u (src + p .offset) ++ loaded v (src + q .offset)) ++ loaded w (src + r .offset) ≡ chunks src m (u ∷ v ∷ w ∷ [])
     list =

@@ -8,7 +8,7 @@ use Rattle.model.specs.Access.{Access, load}
 use Rattle.model.specs.Fit.{Fit, Range}
 use Rattle.model.specs.Lists.{made}
 use Rattle.model.specs.Memory.{readLE, view}
-use Rattle.model.specs.Tally.{tally}
+use Rattle.model.specs.Log.{Log, Recorded}
 use Rattle.words8.specs.Word.{W}
 use Rattle.words8.specs.declared.partial.Loading.{Loading}
 
@@ -18,17 +18,19 @@ pub record PartOf (k addr first m : ℕ) : Type 0 where
   pub less : m < W
   pub range : Range W k (addr + first) m
 
--- After the accesses xs, of a byte or more each: the bytes at `offset` addresses from src on stand in `out`, from its byte dst on.
-pub record SoFar (f : ℕ → ℕ) (src dst : ℕ) (xs : List Access) (p : Loading) : Type 0 where
+-- After the accesses xs, of a byte or more each, which led from the log g to g': the bytes at `offset` addresses from src on stand in `out`,
+-- from its byte dst on.
+pub record SoFar (f : ℕ → ℕ) (src dst : ℕ) (xs : List Access) (g g' : Log) (p : Loading) : Type 0 where
   pub few : length xs ≤ p .offset
   pub out : p .out ≡ readLE f src (p .offset) * 256 ^ dst
-  pub counted : p .work ≡ tally xs
+  pub recorded : Recorded xs g g' (p .work)
 
 -- A chunk of w bytes, which divide the word, is loaded where m has that binary digit. There its access fits, and its bytes have
 -- room in `out`.
-pub record ChunkAsked (ws : List ℕ) (w src dst m : ℕ) (p : Loading) : Type 0 where
+pub record ChunkAsked (ws : List ℕ) (w src dst m : ℕ) (g : Log) (p : Loading) : Type 0 where
   pub xs : List Access
-  pub so : SoFar (view W ws) src dst xs p
+  pub start : Log
+  pub so : SoFar (view W ws) src dst xs start g p
   pub divides : W % w ≡ 0
   pub less : m < W
   pub fits : m / w % 2 ≡ 1 → Fit W (length ws) w (src + p .offset)
@@ -36,6 +38,7 @@ pub record ChunkAsked (ws : List ℕ) (w src dst m : ℕ) (p : Loading) : Type 0
 
 -- What a chunk leaves: where it was loaded, the offset has advanced past it, and what held after the accesses xs holds after xs and its
 -- load. Where it was not, all is as before.
-pub record ChunkDone (f : ℕ → ℕ) (w src dst m : ℕ) (p r : Loading) : Type 0 where
+pub record ChunkDone (f : ℕ → ℕ) (w src dst m : ℕ) (g g' : Log) (p r : Loading) : Type 0 where
   pub offset : r .offset ≡ p .offset + w * (m / w % 2)
-  pub so : (xs : List Access) → SoFar f src dst xs p → SoFar f src dst (xs ++ made (m / w % 2) (load w (src + p .offset))) r
+  pub so : (xs : List Access) {start : Log} → SoFar f src dst xs start g p
+      → SoFar f src dst (xs ++ made (m / w % 2) (load w (src + p .offset))) start g' r

@@ -1,4 +1,5 @@
-//! Answers the text form from standard input by the Rust, without the counts of accepted calls.
+//! Answers the text form from standard input by the Rust, counts and logs by the oracle's lists. Those of accepted compares, bcmps
+//! and strings are left out.
 
 use oracle::machine::Machine;
 use std::io::{self, BufRead, BufWriter, Write};

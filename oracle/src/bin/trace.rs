@@ -1,6 +1,8 @@
-//! Holds the counts of `calls` against the traced accesses of the Rust.
+//! Holds the logs and the counts of `calls`, and the oracle's own lists, against the traced accesses of the Rust.
 
+use oracle::access::{log, log_difference, Access};
 use oracle::arguments::{exit, grouped, write, Arguments};
+use oracle::call::Call;
 use oracle::machine::Answer;
 use oracle::program::Program;
 use oracle::trace::{fault, trace, Traced};
@@ -22,33 +24,80 @@ fn run() -> Result<bool, String> {
     let input = commands().join("\n").into_bytes();
     let lines = trace(&arguments.built("release/traced"), &input)?;
     keep(&kept, &lines)?;
-    let answers = program.answers(input.clone(), lines.len())?;
     let calls = lines.iter().filter(|line| line.accesses.is_some()).count();
     let accesses: usize = lines.iter().filter_map(|line| line.accesses.as_ref()).map(Vec::len).sum();
     println!("{} calls and {} accesses traced", grouped(calls), grouped(accesses));
-    let mut answers = answers.iter();
-    for line in &lines {
-        if let Some(difference) = difference(line, answers.next().map_or("", String::as_str)) {
-            println!("differs: {}\n{difference}", String::from_utf8_lossy(line.line));
+    let asked: Vec<Asked> = lines.iter().flat_map(asked).collect();
+    let input = asked.iter().flat_map(|asked| [asked.line.as_bytes(), b"\n"]).flatten().copied().collect();
+    let answers = program.answers(input, asked.len())?;
+    let (mut logs, mut answers) = (0, answers.iter());
+    for asked in &asked {
+        if let Some(difference) = asked.difference(answers.next().map_or("", String::as_str)) {
+            println!("differs: {}\n{difference}", asked.line);
             return Ok(false);
         }
+        logs += usize::from(asked.logged());
     }
+    println!("{} logs compared entry by entry, with the Rust and with the oracle's list", grouped(logs));
     println!("each access aligned and inside its range, 0 differ");
     Ok(true)
 }
 
-/// Every line here has an answer.
-fn difference(line: &Traced, answer: &str) -> Option<String> {
-    let wanted = line.answer.as_ref()?;
-    if let Answer::Call(call, outcome) = wanted {
-        for access in line.accesses.iter().flatten() {
+/// A line that `calls` is asked, with what the Rust makes of it.
+struct Asked<'a> {
+    line: String,
+    answer: Answer,
+    traced: Option<&'a [Access]>,
+}
+
+/// A traced line as it is, and then the same call with a log. No line here is silent.
+fn asked<'a>(line: &'a Traced) -> Vec<Asked<'a>> {
+    let plain = line.answer.clone().map(|answer| Asked {
+        line: String::from_utf8_lossy(line.line).into_owned(),
+        answer,
+        traced: line.accesses.as_deref(),
+    });
+    let logged = plain.as_ref().and_then(Asked::with_log);
+    plain.into_iter().chain(logged).collect()
+}
+
+impl Asked<'_> {
+    /// The same call with a log that its list just fills; none, where it has no list.
+    fn with_log(&self) -> Option<Self> {
+        let Answer::Call(call, outcome) = self.answer else {
+            return None;
+        };
+        let room = call.list()?.len();
+        let answer = Answer::Call(Call { room: Some(room as u64), ..call }, outcome);
+        Some(Asked { line: format!("{} {room}", self.line.replacen(' ', "-log ", 1)), answer, ..*self })
+    }
+
+    fn logged(&self) -> bool {
+        matches!(self.answer, Answer::Call(Call { room: Some(_), .. }, _))
+    }
+
+    fn difference(&self, found: &str) -> Option<String> {
+        self.fault().or_else(|| {
+            let wanted = self.answer.words(self.traced);
+            let entry = log_difference(found, &wanted).map_or(String::new(), |entry| format!("\n  {entry}"));
+            let agrees = self.answer.is(found, self.traced);
+            (!agrees).then(|| format!("  calls {found}\n  Rust  {wanted}{entry}"))
+        })
+    }
+
+    /// What is wrong with the Rust's accesses, or with the oracle's own list of them.
+    fn fault(&self) -> Option<String> {
+        let (Answer::Call(call, outcome), Some(traced)) = (&self.answer, self.traced) else {
+            return None;
+        };
+        for access in traced {
             if let Some(fault) = fault(call, outcome, access) {
                 return Some(format!("  the Rust's {access} {fault}"));
             }
         }
+        let list = call.list().filter(|list| list != traced)?;
+        Some(format!("  list{}\n  Rust{}", log(&list), log(traced)))
     }
-    let agrees = wanted.is(answer, line.counts());
-    (!agrees).then(|| format!("  calls {answer}\n  Rust  {}", wanted.words(line.counts())))
 }
 
 /// Writes the commands, each accepted call with its accesses behind it as a comment: `calls` can read the file as it is.

@@ -1,6 +1,7 @@
--- `backward8::copy_backward` leaves what performing its list would leave: where its tail is left, the rest is done (`begun`), whichever way it came.
+-- `backward8::copy_backward` makes the accesses of its list, and leaves what performing it leaves: where its tail is left, the rest is
+-- done (`begun`), whichever way it came.
 -- Assumes nothing.
-use mathlib.Core.Path.{refl, _∙_}
+use mathlib.Core.Path.{refl}
 use mathlib.Core.Bool.{false}
 use mathlib.Core.Logic.{⊎-elim}
 use Prim.Native.Nat.{_+_, _-_, _/_, _%_}
@@ -8,11 +9,12 @@ use native.Mathlib.Omega.{arith}
 use borrow.Author.Needs.{needs}
 use Rattle.model.specs.Lists.{wholeWords}
 use Rattle.model.specs.Perform.{moving}
-use Rattle.runs.specs.Ran.{Ran}
+use Rattle.runs.specs.Ran.{Ran, lent}
 use Rattle.words8.specs.Word.{W}
 use Rattle.runs.proofs.Asking.{both-start, words-ahead}
 use Rattle.runs.proofs.Phases.{words-aligned, words-misaligned, Begun, begun-short, begun-long, begun-done, begun-joinable, parts, phases-joinable}
 use Rattle.words8.proofs.WordSize.{core}
+use Rattle.model.proofs.LogLaws.{recorded-room}
 use Rattle.backward8.proofs.copy_backward.Statement.{statement}
 use Rattle.backward8.proofs.copy_backward.Tie as tie
 use Rattle.backward8.proofs.copy_backward.Reads as reads
@@ -43,47 +45,37 @@ sub-n-words c = search needs
 
 copy-backward-aligned-words-requires : tie.Need-copy-backward-aligned-words-requires
 copy-backward-aligned-words-requires c κs =
-    let start = c .before .before .before .before .before .before .before .before .before in
-    (words-ahead false _ _ (both-start false (start .pre)) (c .before .before .before .before .copy-backward-bytes .ensures .size) refl refl (omega arith) (omega arith) (omega arith), omega (arith, c .before .if2 .taken))
+    let start = c .before .before .before .before .before .before .before .before .before .before .before .before .before .before .before .before in
+    (words-ahead false _ _ (both-start false (start .pre)) (c .before .before .before .before .before .before .before .before .copy-backward-bytes .ensures .size) refl refl (omega arith) (omega arith) (omega arith), omega (arith, c .before .before .before .if2 .taken))
 
 copy-backward-misaligned-words-requires : tie.Need-copy-backward-misaligned-words-requires
 copy-backward-misaligned-words-requires c κs =
-    let start = c .before .before .before .before .before .before .before .before .before in
-    (words-ahead false _ _ (both-start false (start .pre)) (c .before .before .before .before .copy-backward-bytes .ensures .size) refl refl (omega arith) (omega arith) (omega arith), (omega arith, omega (arith, c .before .if2 .left)))
+    let start = c .before .before .before .before .before .before .before .before .before .before .before .before .before .before .before .before in
+    (words-ahead false _ _ (both-start false (start .pre)) (c .before .before .before .before .before .before .before .before .copy-backward-bytes .ensures .size) refl refl (omega arith) (omega arith) (omega arith), (omega arith, omega (arith, c .before .before .before .if2 .left)))
 
 -- Whichever way the words were copied.
 words : (c : lts.Joined2 (zero-reads.Asked, zero-reads.Learnt, copy-backward-bytes-reads.Asked, copy-backward-bytes-reads.Learnt, copy-backward-aligned-words-reads.Asked, copy-backward-aligned-words-reads.Learnt, copy-backward-misaligned-words-reads.Asked, copy-backward-misaligned-words-reads.Learnt, join-reads.Asked, join-reads.Learnt) reads.Pre reads.Post)
-    → let a = c .before .before .before .before .before .before .before .before .args in
+    → let a = c .before .before .before .before .before .before .before .before .before .before .before .before .before .args in
     let h = (a .dest + a .n) % W in
     let d = a .dest + a .n - h in
     let s = a .src + a .n - h in
     let m = a .n - h - (a .n - h) % W in
-    Ran W (moving d s) (wholeWords false W d s (m / W)) (c .before .before .before .copy-backward-bytes .last .0) (c .if2 .mem) (c .if2 .words)
+    let bytes = c .before .before .before .before .before .copy-backward-bytes in
+    Ran W (moving d s) (wholeWords false W d s (m / W))
+    (lent (bytes .last .0) (bytes .last .1 .0) (bytes .last .1 .1 .0)) (lent (c .if2 .mem) (c .if2 .log) (c .if2 .place)) (c .if2 .words)
 words c =
-    ⊎-elim (λ w. rw (w .5, w .6) (words-aligned false _ _ _ (omega (arith, w .0 .taken)) (w .2 .ensures)))
-    (λ w. rw (w .5, w .6) (words-misaligned false _ _ _ (omega (arith, w .0 .left)) (w .2 .ensures)))
+    ⊎-elim (λ w. rw (w .9, w .10, w .11, w .12) (words-aligned false _ _ _ (omega (arith, w .0 .taken)) (w .4 .ensures)))
+    (λ w. rw (w .9, w .10, w .11, w .12) (words-misaligned false _ _ _ (omega (arith, w .0 .left)) (w .4 .ensures)))
     (c .if2 .came)
 
 begun : (c : lts.Joined1 (zero-reads.Asked, zero-reads.Learnt, copy-backward-bytes-reads.Asked, copy-backward-bytes-reads.Learnt, copy-backward-aligned-words-reads.Asked, copy-backward-aligned-words-reads.Learnt, copy-backward-misaligned-words-reads.Asked, copy-backward-misaligned-words-reads.Learnt, join-reads.Asked, join-reads.Learnt) reads.Pre reads.Post)
-    → Begun false W (c .before .before .before .args .dest) (c .before .before .before .args .src) (c .before .before .before .args .n) (c .if1 .dest) (c .if1 .src) (c .if1 .n)
-    (c .before .before .before .args .mem .now) (c .if1 .mem) (c .if1 .work)
+    → Begun false W (c .before .before .before .before .args .dest) (c .before .before .before .before .args .src) (c .before .before .before .before .args .n) (c .if1 .dest) (c .if1 .src) (c .if1 .n)
+    (lent (c .before .before .before .before .args .mem .now) (c .before .before .before .before .args .log .now) (c .before .before .before .before .args .place .now)) (lent (c .if1 .mem) (c .if1 .log) (c .if1 .place)) (c .if1 .work)
 begun c =
-    ⊎-elim (λ w. rw (w .7, w .8, w .9, w .10, w .11)
-    (begun-long _ _ false (parts core false _ _ (omega arith)) (both-start false (c .before .before .before .pre)) refl refl refl refl (w .2 .ensures)
-    (words record {
-      before = record {
-        before = record {
-          before = record {
-            before = record { before = record { before = c .before; if1 = w .0 }; copy-backward-bytes-arg = w .1 };
-            copy-backward-bytes = w .2;
-          };
-          mem = w .3;
-        };
-        slice-known2 = w .4;
-      };
-      if2 = w .5;
-    }) (w .6 .ensures)))
-    (λ w. rw (w .1, w .2, w .3, w .4, w .5) (begun-short false (omega arith) (c .before .before .before .pre) (c .before .zero .ensures)))
+    ⊎-elim (λ w. rw (w .11, w .12, w .13, w .14, w .15, w .16, w .17)
+    (begun-long _ _ false (parts core false _ _ (omega arith)) (both-start false (c .before .before .before .before .pre)) refl refl refl refl (w .4 .ensures)
+    (words record { before = record { before = record { before = record { before = record { before = record { before = record { before = record { before = record { before = record { before = c .before; if1 = w .0 }; copy-backward-bytes-arg = w .1 }; copy-backward-bytes-arg2 = w .2 }; copy-backward-bytes-arg3 = w .3 }; copy-backward-bytes = w .4 }; mem = w .5 }; slice-known3 = w .6 }; log = w .7 }; slice-known4 = w .8 }; if2 = w .9 }) (w .10 .ensures)))
+    (λ w. rw (w .1, w .2, w .3, w .4, w .5, w .6, w .7) (begun-short false (omega arith) (c .before .before .before .before .pre) (c .before .zero .ensures)))
     (c .if1 .came)
 
 add-dest : tie.Need-add-dest
@@ -94,9 +86,9 @@ add-src c = search needs
 
 join-requires : tie.Need-join-requires
 join-requires c κs =
-    let start = c .before .before .before .before .before .before .before .before in
+    let start = c .before .before .before .before .before .before .before .before .before .before .before .before .before in
     phases-joinable core false _ _ _ (parts core false _ _ (omega arith)) (omega (arith, start .pre .0 .few, start .pre .0 .inside))
-    (c .before .before .before .copy-backward-bytes .ensures) (words c)
+    (c .before .before .before .before .before .copy-backward-bytes .ensures .recorded .counted) (words c .recorded .counted)
 
 sub-dest-2 : tie.Need-sub-dest-2
 sub-dest-2 c = search needs
@@ -108,18 +100,21 @@ sub-n-2 : tie.Need-sub-n-2
 sub-n-2 c = search needs
 
 copy-backward-bytes-requires-2 : tie.Need-copy-backward-bytes-requires-2
-copy-backward-bytes-requires-2 c κs = begun (c .before) .ahead
+copy-backward-bytes-requires-2 c κs = begun (c .before .before .before) .ahead
 
 join-requires-2 : tie.Need-join-requires-2
 join-requires-2 c κs =
-    let start = c .before .before .before .before .before .before .before in
-    begun-joinable core (begun (c .before .before .before .before)) (c .before .before .copy-backward-bytes2 .ensures) (omega (arith, start .pre .0 .few, start .pre .0 .inside))
-
-same-length : tie.Need-same-length
-same-length c = c .before .before .before .copy-backward-bytes2 .ensures .size ∙ begun (c .before .before .before .before .before) .ran .size
+    let start = c .before .before .before .before .before .before .before .before .before .before .before .before in
+    begun-joinable core (begun (c .before .before .before .before .before .before .before .before)) (c .before .before .before .before .copy-backward-bytes2 .ensures .recorded .counted) (omega (arith, start .pre .0 .few, start .pre .0 .inside))
 
 returns : tie.Need-returns
-returns c = begun-done (begun (c .before .before .before .before .before)) (c .before .before .before .copy-backward-bytes2 .ensures) (c .join2 .ensures)
+returns c = begun-done (begun (c .before .before .before .before .before .before .before .before .before)) (c .before .before .before .before .before .copy-backward-bytes2 .ensures) (c .join2 .ensures)
+
+same-length : tie.Need-same-length
+same-length c = returns c .size
+
+same-length-2 : tie.Need-same-length-2
+same-length-2 c = recorded-room (returns c .recorded)
 
 pub copy-backward-spec : {M : Type 1} → statement M
 copy-backward-spec =
@@ -142,4 +137,5 @@ copy-backward-spec =
     copy-backward-bytes-requires-2
     join-requires-2
     same-length
+    same-length-2
     returns)

@@ -4,8 +4,7 @@ use mathlib.Core.Path.{refl}
 use mathlib.Core.Bool.{false}
 use native.Mathlib.Omega.{arith}
 use borrow.Author.Needs.{needs}
-use Rattle.runs.proofs.RanLaws.{ran-weaker}
-use Rattle.runs.proofs.Straddled.{end-taken, across, trail-joinable}
+use Rattle.runs.proofs.Straddled.{end-taken, trail-joinable, last-across}
 use Rattle.words8.proofs.WordSize.{core}
 use Rattle.backward8.proofs.copy_backward_last_word.Statement.{statement}
 use Rattle.backward8.proofs.copy_backward_last_word.Tie as tie
@@ -18,7 +17,7 @@ sub-load-aligned-end-partial-2 c = search needs
 
 load-aligned-end-partial-requires : tie.Need-load-aligned-end-partial-requires
 load-aligned-end-partial-requires c κs =
-    let start = c .before .before in
+    let start = c .before .before .before .before .before in
     record {
       aligned = omega (arith, start .pre .word, start .pre .words .both .src .here);
       less = omega arith;
@@ -38,19 +37,21 @@ store-requires : tie.Need-store-requires
 store-requires c κs = search needs
 
 join-requires : tie.Need-join-requires
-join-requires c κs = trail-joinable false _ _ (c .before .before .before .before .before .load-aligned-end-partial .ensures .counted) (c .before .before .store .ensures)
+join-requires c κs = trail-joinable false _ _ (c .before .before .before .before .before .before .before .before .before .before .before .load-aligned-end-partial .ensures .recorded) (c .before .before .before .before .store .ensures)
 
 same-length : tie.Need-same-length
 same-length c = search needs
 
+same-length-2 : tie.Need-same-length-2
+same-length-2 c = search needs
+
 returns : tie.Need-returns
 returns c =
-    let start = c .before .before .before .before .before .before .before .before .before in
-    ran-weaker (λ held h. h) (λ held h. tt)
-    (across false _ _ _ _ _ (omega arith)
+    let start = c .before .before .before .before .before .before .before .before .before .before .before .before .before .before .before .before .before .before in
+    last-across false _ _ _ _ _ (omega arith)
     (omega arith, (refl, (omega (arith, start .pre .words .both .src .here), omega (arith, start .pre .words .both .dest .here))))
-    (end-taken _ core (omega (arith, start .pre .word)) (omega (arith, start .pre .less)) (omega (arith, start .pre .some)) (c .before .before .before .before .before .before .load-aligned-end-partial .ensures))
-    (c .before .before .before .before .before .reassembled .ensures) (c .before .before .before .store .ensures) (c .join .ensures))
+    (end-taken _ core (omega (arith, start .pre .word)) (omega (arith, start .pre .less)) (omega (arith, start .pre .some)) (c .before .before .before .before .before .before .before .before .before .before .before .before .load-aligned-end-partial .ensures))
+    (c .before .before .before .before .before .before .before .before .before .reassembled .ensures) (c .before .before .before .before .before .store .ensures) (c .join .ensures)
 
 pub copy-backward-last-word-spec : {M : Type 1} → statement M
 copy-backward-last-word-spec =
@@ -64,4 +65,5 @@ copy-backward-last-word-spec =
     store-requires
     join-requires
     same-length
+    same-length-2
     returns)

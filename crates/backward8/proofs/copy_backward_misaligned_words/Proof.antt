@@ -1,4 +1,4 @@
--- `backward8::copy_backward_misaligned_words` leaves what performing its list would leave.
+-- `backward8::copy_backward_misaligned_words` makes the accesses of its list, and leaves what performing it leaves.
 -- Invariant: the first partial load and so many turns are done, and what is left to store of the word loaded last is held (`Turning`).
 -- The measure is the destination's cursor. Assumes nothing.
 use mathlib.Core.Path.{_≡_, refl}
@@ -8,17 +8,21 @@ use native.Mathlib.Omega.{arith}
 use borrow.Author.Needs.{needs}
 use Rattle.words8.specs.Word.{W}
 use Rattle.runs.proofs.Straddled.{front-taken, taken-first}
-use Rattle.runs.proofs.Misaligned.{Turning, turning-none, turning-across, last-few, turning-joinable, turning-more, turning-last}
+use Rattle.runs.proofs.Misaligned.{Turning, turning-none, turning-across, last-few, turning-joinable, turning-more, turning-last, rest-few, lead-joinable, all-misaligned}
 use Rattle.words8.proofs.WordSize.{core}
+use Rattle.runs.specs.Ran.{lent}
+use Rattle.model.proofs.LogLaws.{recorded-room}
+use Rattle.model.specs.Perform.{moving}
+use Rattle.model.proofs.TallyLaws.{counted-then}
 use Rattle.backward8.proofs.copy_backward_misaligned_words.Statement.{statement}
 use Rattle.backward8.proofs.copy_backward_misaligned_words.Tie as tie
 
 abbrev Inv-loop : tie.InvT-loop
-Inv-loop mem₀ dest src n dest-start dest₀ offset src-aligned₀ prev-word₀ work₀ mem dest' src-aligned prev-word work =
-    Turning false W offset dest src (n - W) dest' src-aligned prev-word mem₀ mem work
+Inv-loop mem₀ log₀ place₀ dest src n dest-start dest₀ offset src-aligned₀ first prev-word₀ work₀ mem log place dest' src-aligned prev-word work =
+    Turning false W offset dest src (n - W) src-aligned₀ prev-word₀ dest' src-aligned prev-word (lent mem₀ log₀ place₀) (lent mem log place) work
 
 abbrev μ-loop : tie.MeasureT-loop
-μ-loop mem₀ dest src n dest-start dest₀ offset src-aligned₀ prev-word₀ work₀ mem dest' src-aligned prev-word work = dest'
+μ-loop mem₀ log₀ place₀ dest src n dest-start dest₀ offset src-aligned₀ first prev-word₀ work₀ mem log place dest' src-aligned prev-word work = dest'
 
 -- One turn lowers the cursor; where the loop ends, one word is left; and byte o of the word below b. (With few numbers in reach, omega
 -- finds these.)
@@ -32,7 +36,7 @@ below : (b o : ℕ) → W ≤ b → o < W → b - W + o ≡ b - (W - o)
 below b o l m = omega arith
 
 sub-dest-start : tie.Need-sub-dest-start Inv-loop μ-loop
-sub-dest-start c = omega (arith, c .before .pre .0 .both .dest .here)
+sub-dest-start c = omega (arith, c .before .before .pre .0 .both .dest .here)
 
 sub-src-aligned : tie.Need-sub-src-aligned Inv-loop μ-loop
 sub-src-aligned c = omega arith
@@ -42,25 +46,26 @@ load-aligned-partial-requires c κs = record {
   aligned = omega arith;
   less = omega arith;
   range = record {
-    few = c .before .before .pre .0 .both .src .range .few;
-    inside = omega (arith, c .before .before .pre .0 .both .src .range .inside, c .before .before .pre .0 .both .src .here);
+    few = c .before .before .before .before .before .pre .0 .both .src .range .few;
+    inside = omega (arith, c .before .before .before .before .before .pre .0 .both .src .range .inside, c .before .before .before .before .before .pre .0 .both .src .here);
   };
 }
 
+zero-requires : tie.Need-zero-requires Inv-loop μ-loop
+zero-requires c κs = search needs
+
 loop-holds : tie.Need-loop-holds Inv-loop μ-loop
-loop-holds c =
-    turning-none false _ (omega arith) (omega arith) refl
-    (taken-first (front-taken core (omega arith) (omega arith) (c .before .load-aligned-partial .ensures)))
+loop-holds c = turning-none false (omega arith) (omega arith) (c .zero .ensures)
 
 add-loop : tie.Need-add-loop Inv-loop μ-loop
 add-loop c =
-    let start = c .before .before .before .before .before in
+    let start = c .before .before .before .before .before .before .before .before .before .before in
     omega (arith, start .pre .0 .both .dest .here, start .pre .0 .both .dest .range .few, start .pre .0 .both .dest .range .inside)
 
 copy-backward-next-word-requires : tie.Need-copy-backward-next-word-requires Inv-loop μ-loop
 copy-backward-next-word-requires c κs =
-    let start = c .before .before .before .before .before .before .before in
-    let inv = c .before .before .loop .inv in
+    let start = c .before .before .before .before .before .before .before .before .before .before .before .before .before .before in
+    let inv = c .before .before .before .before .loop .inv in
     turning-across false (W + W) (start .pre .0) inv (omega arith)
     (omega (arith, inv .turned .dest, inv .turned .within, start .pre .0 .both .dest .here, start .pre .0 .whole, start .pre .1 .0)) refl
     (omega (arith, inv .turned .dest, inv .turned .within, start .pre .0 .both .dest .here, start .pre .0 .whole, start .pre .1 .0, start .pre .0 .aligned))
@@ -68,38 +73,38 @@ copy-backward-next-word-requires c κs =
 
 join-requires : tie.Need-join-requires Inv-loop μ-loop
 join-requires c κs =
-    let start = c .before .before .before .before .before .before .before .before .before .before in
-    let inv = c .before .before .before .before .before .loop .inv in
+    let start = c .before .before .before .before .before .before .before .before .before .before .before .before .before .before .before .before .before .before .before in
+    let inv = c .before .before .before .before .before .before .before .before .before .loop .inv in
     turning-joinable false (start .pre .0) (omega arith) inv
     (omega (arith, inv .turned .dest, inv .turned .within, start .pre .0 .both .dest .here, start .pre .0 .whole, start .pre .1 .0))
     (omega (arith, inv .turned .dest, inv .turned .within, start .pre .0 .both .dest .here, start .pre .0 .whole, start .pre .1 .0)) (omega arith)
-    (c .before .before .copy-backward-next-word .ensures)
+    (c .before .before .before .before .copy-backward-next-word .ensures)
 
 sub-src-aligned-2 : tie.Need-sub-src-aligned-2 Inv-loop μ-loop
 sub-src-aligned-2 c =
-    let start = c .before .before .before .before .before .before .before .before .before .before .before in
-    let inv = c .before .before .before .before .before .before .loop .inv in
+    let start = c .before .before .before .before .before .before .before .before .before .before .before .before .before .before .before .before .before .before .before .before in
+    let inv = c .before .before .before .before .before .before .before .before .before .before .loop .inv in
     omega (arith, inv .turned .src, inv .turned .dest, inv .turned .within, start .pre .0 .both .dest .here, start .pre .0 .whole, start .pre .1 .0, start .pre .0 .both .src .here)
 
 sub-dest : tie.Need-sub-dest Inv-loop μ-loop
 sub-dest c = omega arith
 
 loop-less : tie.Need-loop-less Inv-loop μ-loop
-loop-less c = lower _ _ _ (c .before .before .before .before .before .loop-test .taken)
+loop-less c = lower _ _ _ (c .before .before .before .before .before .before .before .before .before .loop-test .taken)
 
 loop-again : tie.Need-loop-again Inv-loop μ-loop
 loop-again c =
-    let start = c .before .before .before .before .before .before .before .before .before .before .before in
-    let inv = c .before .before .before .before .before .before .loop .inv in
+    let start = c .before .before .before .before .before .before .before .before .before .before .before .before .before .before .before .before .before .before .before .before in
+    let inv = c .before .before .before .before .before .before .before .before .before .before .loop .inv in
     turning-more false (start .pre .0) (omega arith) inv
     (omega (arith, inv .turned .dest, inv .turned .within, start .pre .0 .both .dest .here, start .pre .0 .whole, start .pre .1 .0))
     (omega (arith, inv .turned .dest, inv .turned .within, start .pre .0 .both .dest .here, start .pre .0 .whole, start .pre .1 .0))
-    (c .before .before .before .copy-backward-next-word .ensures) (c .join .ensures) refl refl
+    (c .before .before .before .before .before .copy-backward-next-word .ensures) (c .join .ensures) refl refl
 
 copy-backward-last-word-requires : tie.Need-copy-backward-last-word-requires Inv-loop μ-loop
 copy-backward-last-word-requires c κs =
-    let start = c .before .before .before .before .before .before .before in
-    let inv = c .before .before .loop .inv in
+    let start = c .before .before .before .before .before .before .before .before .before .before .before .before .before .before in
+    let inv = c .before .before .before .before .loop .inv in
     turning-across false W (start .pre .0) inv (omega arith)
     (omega (arith, inv .turned .dest, inv .turned .within, start .pre .0 .both .dest .here, start .pre .0 .whole, start .pre .1 .0)) refl
     (omega (arith, inv .turned .dest, inv .turned .within, start .pre .0 .both .dest .here, start .pre .0 .whole, start .pre .1 .0, start .pre .0 .aligned))
@@ -107,28 +112,39 @@ copy-backward-last-word-requires c κs =
 
 join-requires-2 : tie.Need-join-requires-2 Inv-loop μ-loop
 join-requires-2 c κs =
-    let start = c .before .before .before .before .before .before .before .before .before .before in
-    let inv = c .before .before .before .before .before .loop .inv in
+    let start = c .before .before .before .before .before .before .before .before .before .before .before .before .before .before .before .before .before .before .before in
+    let inv = c .before .before .before .before .before .before .before .before .before .loop .inv in
     turning-joinable false (start .pre .0) (omega arith) inv
     (omega (arith, inv .turned .dest, inv .turned .within, start .pre .0 .both .dest .here, start .pre .0 .whole, start .pre .1 .0))
     (omega (arith, inv .turned .dest, inv .turned .within, start .pre .0 .both .dest .here, start .pre .0 .whole, start .pre .1 .0)) (last-few false _ _ _)
-    (c .before .before .copy-backward-last-word .ensures)
+    (c .before .before .before .before .copy-backward-last-word .ensures)
 
-same-length : tie.Need-same-length Inv-loop μ-loop
-same-length c = search needs
+join-requires-3 : tie.Need-join-requires-3 Inv-loop μ-loop
+join-requires-3 c κs =
+    let start = c .before .before .before .before .before .before .before .before .before .before .before .before .before .before .before .before .before .before .before .before in
+    let inv = c .before .before .before .before .before .before .before .before .before .before .loop .inv in
+    lead-joinable false _ _ _ (c .before .before .before .before .before .before .before .before .before .before .before .before .before .before .load-aligned-partial .ensures .recorded .counted)
+    (counted-then _ _ (inv .turned .ran .recorded .counted) (c .before .before .before .before .before .copy-backward-last-word .ensures .recorded .counted) (c .join2 .ensures))
+    (rest-few false _ _ _ _ _ (omega (arith, inv .turned .dest, inv .turned .within, start .pre .0 .both .dest .here, start .pre .0 .whole, start .pre .1 .0)) (last-few false _ _ _))
 
 returns : tie.Need-returns Inv-loop μ-loop
 returns c =
-    let start = c .before .before .before .before .before .before .before .before .before .before .before in
-    let inv = c .before .before .before .before .before .before .loop .inv in
-    turning-last false _ _ _ (start .pre .0) (omega arith) inv
-    (omega (arith, inv .turned .dest, inv .turned .within, start .pre .0 .both .dest .here, start .pre .0 .whole, start .pre .1 .0))
-    (c .before .before .before .copy-backward-last-word .ensures) (c .join2 .ensures)
+    let start = c .before .before .before .before .before .before .before .before .before .before .before .before .before .before .before .before .before .before .before .before .before in
+    let inv = c .before .before .before .before .before .before .before .before .before .before .before .loop .inv in
+    let lead = taken-first {give = moving (start .args .dest) (start .args .src)} (front-taken core (omega arith) (omega arith) (c .before .before .before .before .before .before .before .before .before .before .before .before .before .before .before .load-aligned-partial .ensures)) in
+    let last = turning-last false (start .pre .0) (omega arith) inv (omega (arith, inv .turned .dest, inv .turned .within, start .pre .0 .both .dest .here, start .pre .0 .whole, start .pre .1 .0)) (c .before .before .before .before .before .before .copy-backward-last-word .ensures) (c .before .join2 .ensures) in
+    all-misaligned false _ _ _ _ lead refl inv
     (one-left _ _ _ _ (start .pre .1 .0) (start .pre .0 .whole) (start .pre .0 .both .dest .here) (inv .turned .within)
-    (inv .turned .dest) (omega (arith, c .before .before .before .before .before .loop-test .left)))
+    (inv .turned .dest) (omega (arith, c .before .before .before .before .before .before .before .before .before .before .loop-test .left)))
     refl
     (below _ _ (omega (arith, inv .turned .src, inv .turned .within, start .pre .0 .both .src .here, start .pre .1 .0))
-    (omega arith))
+    (omega arith)) last (c .join3 .ensures)
+
+same-length : tie.Need-same-length Inv-loop μ-loop
+same-length c = returns c .size
+
+same-length-2 : tie.Need-same-length-2 Inv-loop μ-loop
+same-length-2 c = recorded-room (returns c .recorded)
 
 pub copy-backward-misaligned-words-spec : {M : Type 1} → statement M
 copy-backward-misaligned-words-spec =
@@ -139,6 +155,7 @@ copy-backward-misaligned-words-spec =
     sub-dest-start
     sub-src-aligned
     load-aligned-partial-requires
+    zero-requires
     loop-holds
     add-loop
     copy-backward-next-word-requires
@@ -149,5 +166,7 @@ copy-backward-misaligned-words-spec =
     loop-again
     copy-backward-last-word-requires
     join-requires-2
+    join-requires-3
     same-length
+    same-length-2
     returns)

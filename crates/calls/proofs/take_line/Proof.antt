@@ -30,10 +30,13 @@ same-length c = search needs
 same-length-2 : tie.Need-same-length-2
 same-length-2 c = search needs
 
+same-length-3 : tie.Need-same-length-3
+same-length-3 c = search needs
+
 returns : tie.Need-returns
 returns c =
-    let line = c .before .before .before .before .answer-line .ensures in
-    let room = c .before .before .before .before .before .before .before .before .make-room .ensures in (
+    let line = c .before .before .before .before .before .before .answer-line .ensures in
+    let room = c .before .before .before .before .before .before .before .before .before .before .before .make-room .ensures in (
       record {
         sound = record { unread = omega arith; input = omega arith; output = omega (arith, line .text .inside) };
         start = refl;
@@ -59,4 +62,5 @@ take-line-spec =
     answer-line-requires
     same-length
     same-length-2
+    same-length-3
     returns)

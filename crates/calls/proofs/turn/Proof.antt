@@ -17,7 +17,7 @@ find-requires c κs = search needs
 
 read-on-requires : tie.Need-read-on-requires
 read-on-requires c κs =
-    let pre = c .before .before .before .before .before .before .before .before .before .pre in (pre .inputs, pre .outputs, record { unread = le-refl _; input = pre .sound .input; output = pre .sound .output })
+    let pre = c .before .before .before .before .before .before .before .before .before .before .pre in (pre .inputs, pre .outputs, record { unread = le-refl _; input = pre .sound .input; output = pre .sound .output })
 
 same-length : tie.Need-same-length
 same-length c = search needs
@@ -27,7 +27,7 @@ same-length-2 c = search needs
 
 returns : tie.Need-returns
 returns c =
-    let start = c .before .before .before .before .before .before .before .before .before .before .before .before in
+    let start = c .before .before .before .before .before .before .before .before .before .before .before .before .before in
     let read = c .before .before .read-on .ensures in
     turn-within (start .args .stream) _ (start .args .input .now) _ _ _ _ _ (c .before .before .before .before .before .before .before .find .ensures .0) _ (c .before .before .before .before .before .if2 .taken)
     (within-skipped _ _ _ _ _ _ (read .0) (read .1) (read .2) (c .before .before .before .before .before .before .if1 .taken) (read .3))
@@ -40,7 +40,7 @@ same-length-3 c = search needs
 
 returns-2 : tie.Need-returns-2
 returns-2 c =
-    let start = c .before .before .before .before .before .before .before in
+    let start = c .before .before .before .before .before .before .before .before in
     let find = c .before .before .find .ensures in
     let inside = less (find .1) (c .if2 .left) in
     turn-passed (start .args .stream) _ (start .args .input .now) _ _ _ (find .0) inside (c .before .if1 .taken)
@@ -64,16 +64,16 @@ same-length-6 c = search needs
 
 returns-3 : tie.Need-returns-3
 returns-3 c =
-    let start = c .before .before .before .before .before .before .before .before .before .before .before .before .before .before .before in
-    turn-line (start .args .stream) _ (start .args .input .now) _ _ _ _ _ (c .before .before .before .before .before .before .before .before .before .before .find .ensures .0) (c .before .before .before .before .before .before .before .before .if3 .taken)
-    (c .before .before .before .before .before .before .before .before .before .if1 .left) (c .before .before .before .before .take-line .ensures)
+    let start = c .before .before .before .before .before .before .before .before .before .before .before .before .before .before .before .before .before .before .before in
+    turn-line (start .args .stream) _ (start .args .input .now) _ _ _ _ _ (c .before .before .before .before .before .before .before .before .before .before .before .before .before .find .ensures .0) (c .before .before .before .before .before .before .before .before .before .before .before .if3 .taken)
+    (c .before .before .before .before .before .before .before .before .before .before .before .before .if1 .left) (c .before .before .before .before .before .before .take-line .ensures)
 
 sub-if4 : tie.Need-sub-if4
 sub-if4 c = search needs
 
 read-on-requires-2 : tie.Need-read-on-requires-2
 read-on-requires-2 c κs =
-    let pre = c .before .before .before .before .before .before .before .before .before .before .before .pre in (pre .inputs, pre .outputs, pre .sound)
+    let pre = c .before .before .before .before .before .before .before .before .before .before .before .before .pre in (pre .inputs, pre .outputs, pre .sound)
 
 same-length-7 : tie.Need-same-length-7
 same-length-7 c = search needs
@@ -83,7 +83,7 @@ same-length-8 c = search needs
 
 returns-4 : tie.Need-returns-4
 returns-4 c =
-    let start = c .before .before .before .before .before .before .before .before .before .before .before .before .before .before in
+    let start = c .before .before .before .before .before .before .before .before .before .before .before .before .before .before .before in
     let find = c .before .before .before .before .before .before .before .before .before .find .ensures in
     let read = c .before .before .read-on2 .ensures in
     turn-within (start .args .stream) _ (start .args .input .now) _ _ _ _ _ (find .0) _ (le-antisymm (find .1) (c .before .before .before .before .before .before .before .if3 .left))
@@ -91,7 +91,7 @@ returns-4 c =
 
 take-line-requires-2 : tie.Need-take-line-requires-2
 take-line-requires-2 c κs =
-    let pre = c .before .before .before .before .before .before .before .before .before .before .before .before .pre in (pre, pre .sound .unread, le-refl _, le-refl _)
+    let pre = c .before .before .before .before .before .before .before .before .before .before .before .before .before .before .pre in (pre, pre .sound .unread, le-refl _, le-refl _)
 
 same-length-9 : tie.Need-same-length-9
 same-length-9 c = search needs
@@ -102,12 +102,18 @@ same-length-10 c = search needs
 same-length-11 : tie.Need-same-length-11
 same-length-11 c = search needs
 
+same-length-12 : tie.Need-same-length-12
+same-length-12 c = search needs
+
+same-length-13 : tie.Need-same-length-13
+same-length-13 c = search needs
+
 returns-5 : tie.Need-returns-5
 returns-5 c =
-    let start = c .before .before .before .before .before .before .before .before .before .before .before .before .before .before .before .before .before in
-    let find = c .before .before .before .before .before .before .before .before .before .before .before .before .find .ensures in
-    turn-within (start .args .stream) _ (start .args .input .now) _ _ _ _ _ (find .0) _ (le-antisymm (find .1) (c .before .before .before .before .before .before .before .before .before .before .if3 .left))
-    (within-long _ _ _ _ _ _ _ (c .before .before .before .before .before .before .before .before .before .before .before .if1 .left) (c .before .before .before .before .before .before .before .before .if4 .left) (c .before .before .before .before .take-line2 .ensures))
+    let start = c .before .before .before .before .before .before .before .before .before .before .before .before .before .before .before .before .before .before .before .before .before in
+    let find = c .before .before .before .before .before .before .before .before .before .before .before .before .before .before .before .find .ensures in
+    turn-within (start .args .stream) _ (start .args .input .now) _ _ _ _ _ (find .0) _ (le-antisymm (find .1) (c .before .before .before .before .before .before .before .before .before .before .before .before .before .if3 .left))
+    (within-long _ _ _ _ _ _ _ (c .before .before .before .before .before .before .before .before .before .before .before .before .before .before .if1 .left) (c .before .before .before .before .before .before .before .before .before .before .before .if4 .left) (c .before .before .before .before .before .before .take-line2 .ensures))
 
 pub turn-spec : {M : Type 1} → statement M
 turn-spec =
@@ -126,14 +132,16 @@ turn-spec =
     same-length-4
     same-length-5
     same-length-6
+    same-length-7
     returns-3
     sub-if4
     read-on-requires-2
-    same-length-7
     same-length-8
+    same-length-9
     returns-4
     take-line-requires-2
-    same-length-9
     same-length-10
     same-length-11
+    same-length-12
+    same-length-13
     returns-5)

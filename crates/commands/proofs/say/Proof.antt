@@ -20,8 +20,14 @@ element-copy-out-c c = search needs
 element-copy-out-d : tie.Need-element-copy-out-d
 element-copy-out-d c = search needs
 
+element-copy-out-e : tie.Need-element-copy-out-e
+element-copy-out-e c = search needs
+
 value-at-requires : tie.Need-value-at-requires
 value-at-requires c κs = search needs
+
+value-at-requires-2 : tie.Need-value-at-requires-2
+value-at-requires-2 c κs = search needs
 
 inside-memory-requires : tie.Need-inside-memory-requires
 inside-memory-requires c κs = search needs
@@ -48,15 +54,24 @@ returns-6 : tie.Need-returns-6
 returns-6 c = rw (c .match .keys6)
 
 returns-7 : tie.Need-returns-7
-returns-7 c = rw (c .before .match .keys7) (c .inside-memory .ensures)
+returns-7 c = rw (c .match .keys7)
 
 returns-8 : tie.Need-returns-8
-returns-8 c = rw (c .before .match .keys8) (c .inside-memory2 .ensures)
+returns-8 c = rw (c .match .keys8)
 
 returns-9 : tie.Need-returns-9
-returns-9 c =
-    let row = c .before .before .before .before .before .before .args .row in
-    let last : row ≡ 8 = omega (arith, none-below 8 row (c .match .rest)) in
+returns-9 c = rw (c .before .match .keys9, toZ-ofZ {w = w32} (record { sfits = c .value-at2 .ok }), c .value-at2 .ensures)
+
+returns-10 : tie.Need-returns-10
+returns-10 c = rw (c .before .match .keys10) (c .inside-memory .ensures)
+
+returns-11 : tie.Need-returns-11
+returns-11 c = rw (c .before .match .keys11) (c .inside-memory2 .ensures)
+
+returns-12 : tie.Need-returns-12
+returns-12 c =
+    let row = c .before .before .before .before .before .before .before .args .row in
+    let last : row ≡ 11 = omega (arith, none-below 11 row (c .match .rest)) in
     rw last
 
 pub say-spec : {M : Type 1} → statement M
@@ -67,7 +82,9 @@ say-spec =
     element-copy-out-b
     element-copy-out-c
     element-copy-out-d
+    element-copy-out-e
     value-at-requires
+    value-at-requires-2
     inside-memory-requires
     inside-memory-requires-2
     returns
@@ -78,4 +95,7 @@ say-spec =
     returns-6
     returns-7
     returns-8
-    returns-9)
+    returns-9
+    returns-10
+    returns-11
+    returns-12)

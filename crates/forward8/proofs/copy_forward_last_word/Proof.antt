@@ -4,8 +4,7 @@ use mathlib.Core.Path.{refl}
 use mathlib.Core.Bool.{true}
 use native.Mathlib.Omega.{arith}
 use borrow.Author.Needs.{needs}
-use Rattle.runs.proofs.RanLaws.{ran-weaker}
-use Rattle.runs.proofs.Straddled.{front-taken, across, trail-joinable}
+use Rattle.runs.proofs.Straddled.{front-taken, trail-joinable, last-across}
 use Rattle.words8.proofs.WordSize.{core}
 use Rattle.forward8.proofs.copy_forward_last_word.Statement.{statement}
 use Rattle.forward8.proofs.copy_forward_last_word.Tie as tie
@@ -15,7 +14,7 @@ add-load-aligned-partial c = search needs
 
 load-aligned-partial-requires : tie.Need-load-aligned-partial-requires
 load-aligned-partial-requires c κs =
-    let start = c .before .before in
+    let start = c .before .before .before .before .before in
     record {
       aligned = omega (arith, start .pre .word, start .pre .words .both .src .here);
       less = omega arith;
@@ -32,18 +31,20 @@ store-requires : tie.Need-store-requires
 store-requires c κs = search needs
 
 join-requires : tie.Need-join-requires
-join-requires c κs = trail-joinable true _ _ (c .before .before .before .before .before .load-aligned-partial .ensures .counted) (c .before .before .store .ensures)
+join-requires c κs = trail-joinable true _ _ (c .before .before .before .before .before .before .before .before .before .before .before .load-aligned-partial .ensures .recorded) (c .before .before .before .before .store .ensures)
 
 same-length : tie.Need-same-length
 same-length c = search needs
 
+same-length-2 : tie.Need-same-length-2
+same-length-2 c = search needs
+
 returns : tie.Need-returns
 returns c =
-    let start = c .before .before .before .before .before .before .before .before .before in
-    ran-weaker (λ held h. h) (λ held h. tt)
-    (across true _ _ _ _ _ (omega arith) (refl, omega arith)
-    (front-taken core (omega (arith, start .pre .word)) (start .pre .less) (c .before .before .before .before .before .before .load-aligned-partial .ensures))
-    (c .before .before .before .before .before .reassembled .ensures) (c .before .before .before .store .ensures) (c .join .ensures))
+    let start = c .before .before .before .before .before .before .before .before .before .before .before .before .before .before .before .before .before .before in
+    last-across true _ _ _ _ _ (omega arith) (refl, omega arith)
+    (front-taken core (omega (arith, start .pre .word)) (start .pre .less) (c .before .before .before .before .before .before .before .before .before .before .before .before .load-aligned-partial .ensures))
+    (c .before .before .before .before .before .before .before .before .before .reassembled .ensures) (c .before .before .before .before .before .store .ensures) (c .join .ensures)
 
 pub copy-forward-last-word-spec : {M : Type 1} → statement M
 copy-forward-last-word-spec =
@@ -55,4 +56,5 @@ copy-forward-last-word-spec =
     store-requires
     join-requires
     same-length
+    same-length-2
     returns)

@@ -22,11 +22,11 @@ returns c =
 
 returns-2 : tie.Need-returns-2
 returns-2 c =
-    let made = c .before .before in
-    let checked = made .before .before .before in
+    let made = c .before .before .before in
+    let checked = made .before .before .before .before .before in
     let start = checked .before .before .args in
     compare-kept W (start .s1) (start .s2) (start .n)
-    (ruled-by (checked .check-ranges .ensures) (made .before .enum-told .given .1)) (made .compare-bytes .ensures)
+    (ruled-by (checked .check-ranges .ensures) (made .before .before .before .enum-told .given .1)) (made .compare-bytes .ensures)
     (c .new .ensures
     ∙ ap (λ (z : ℤ). replied (a-number z) (made .compare-bytes .result .work))
     (toZ-ofZ {w = w32} (record { sfits = c .before .struct-told .given .0 .1 })))
@@ -43,12 +43,15 @@ refused-requires c κs = search needs
 enum-told : tie.Need-enum-told
 enum-told c = search needs
 
+slice-aggregate-compare-bytes : tie.Need-slice-aggregate-compare-bytes
+slice-aggregate-compare-bytes c = search needs
+
 compare-bytes-requires : tie.Need-compare-bytes-requires
 compare-bytes-requires c κs =
-    let checked = c .before .before in
+    let checked = c .before .before .before .before in
     let start = checked .before .before .args in
     ranges-accepted W (length (start .mem .now)) (start .s1) (start .s2) (start .n)
-    (ruled-by (checked .check-ranges .ensures) (c .enum-told .given .1))
+    (ruled-by (checked .check-ranges .ensures) (c .before .before .enum-told .given .1))
 
 new-requires : tie.Need-new-requires
 new-requires c κs = search needs
@@ -62,6 +65,7 @@ memcmp-spec =
     refused-requires
     returns
     enum-told
+    slice-aggregate-compare-bytes
     compare-bytes-requires
     new-requires
     returns-2)

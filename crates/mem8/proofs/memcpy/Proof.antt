@@ -19,11 +19,11 @@ returns c =
 
 returns-2 : tie.Need-returns-2
 returns-2 c =
-    let made = c .before .before .before in
-    let passed = made .before .before in
+    let made = c .before .before .before .before in
+    let passed = made .before .before .before .before in
     let checked = passed .before .before in
     let start = checked .before .before .args in
-    copy-kept core (start .dest) (start .src) (start .n) (λ i. omega (arith, c .before .slice-known2 .given i))
+    copy-kept core (start .dest) (start .src) (start .n) (λ i. omega (arith, c .before .before .slice-known2 .given i))
     (ruled-by (checked .check-copy .ensures) (passed .enum-told .given .1)) (made .copy-forward .ensures) (c .new .ensures)
 
 check-copy-requires : tie.Need-check-copy-requires
@@ -38,12 +38,15 @@ refused-requires c κs = search needs
 enum-told : tie.Need-enum-told
 enum-told c = search needs
 
+slice-aggregate-copy-forward : tie.Need-slice-aggregate-copy-forward
+slice-aggregate-copy-forward c = search needs
+
 copy-forward-requires : tie.Need-copy-forward-requires
 copy-forward-requires c κs =
-    let checked = c .before .before .before in
+    let checked = c .before .before .before .before .before in
     let start = checked .before .before .args in
     copy-accepted W (length (start .mem .now)) (start .dest) (start .src) (start .n)
-    (ruled-by (checked .check-copy .ensures) (c .before .enum-told .given .1)) .0
+    (ruled-by (checked .check-copy .ensures) (c .before .before .before .enum-told .given .1)) .0
 
 new-requires : tie.Need-new-requires
 new-requires c κs = search needs
@@ -60,6 +63,7 @@ memcpy-spec =
     refused-requires
     returns
     enum-told
+    slice-aggregate-copy-forward
     copy-forward-requires
     new-requires
     same-length

@@ -19,11 +19,11 @@ returns c =
 
 returns-2 : tie.Need-returns-2
 returns-2 c =
-    let made = c .before .before .before in
-    let passed = made .before .before in
+    let made = c .before .before .before .before in
+    let passed = made .before .before .before .before in
     let checked = passed .before .before in
     let start = checked .before .before .args in
-    move-kept core (start .dest) (start .src) (start .n) (λ i. omega (arith, c .before .slice-known2 .given i))
+    move-kept core (start .dest) (start .src) (start .n) (λ i. omega (arith, c .before .before .slice-known2 .given i))
     (ruled-by (checked .check-ranges .ensures) (passed .enum-told .given .1)) (made .move-bytes .ensures) (c .new .ensures)
 
 check-ranges-requires : tie.Need-check-ranges-requires
@@ -38,12 +38,15 @@ refused-requires c κs = search needs
 enum-told : tie.Need-enum-told
 enum-told c = search needs
 
+slice-aggregate-move-bytes : tie.Need-slice-aggregate-move-bytes
+slice-aggregate-move-bytes c = search needs
+
 move-bytes-requires : tie.Need-move-bytes-requires
 move-bytes-requires c κs =
-    let checked = c .before .before .before in
+    let checked = c .before .before .before .before .before in
     let start = checked .before .before .args in
     ranges-accepted W (length (start .mem .now)) (start .dest) (start .src) (start .n)
-    (ruled-by (checked .check-ranges .ensures) (c .before .enum-told .given .1))
+    (ruled-by (checked .check-ranges .ensures) (c .before .before .before .enum-told .given .1))
 
 new-requires : tie.Need-new-requires
 new-requires c κs = search needs
@@ -60,6 +63,7 @@ memmove-spec =
     refused-requires
     returns
     enum-told
+    slice-aggregate-move-bytes
     move-bytes-requires
     new-requires
     same-length

@@ -52,11 +52,11 @@ returns c =
 
 returns-2 : tie.Need-returns-2
 returns-2 c =
-    let made = c .before .before .before in
-    let passed = made .before .before .before in
+    let made = c .before .before .before .before in
+    let passed = made .before .before .before .before .before in
     let checked = passed .before .before in
     let start = checked .before .before in
-    fill-kept core (start .args .s) (start .args .c) (start .args .n) (λ i. omega (arith, c .before .slice-known2 .given i))
+    fill-kept core (start .args .s) (start .args .c) (start .args .n) (λ i. omega (arith, c .before .before .slice-known2 .given i))
     (ruled-by (ranged checked) (passed .enum-told .given .1))
     (made .before .fill-byte .ensures ∙ ap byteOf (toZ-ofZ (start .fits .c))) (made .set-bytes .ensures) (c .new .ensures)
 
@@ -72,15 +72,18 @@ refused-requires c κs = search needs
 enum-told : tie.Need-enum-told
 enum-told c = search needs
 
+slice-aggregate-set-bytes : tie.Need-slice-aggregate-set-bytes
+slice-aggregate-set-bytes c = search needs
+
 fill-byte-requires : tie.Need-fill-byte-requires
 fill-byte-requires c κs = search needs
 
 set-bytes-requires : tie.Need-set-bytes-requires
 set-bytes-requires c κs =
-    let checked = c .before .before .before .before in
+    let checked = c .before .before .before .before .before .before in
     let start = checked .before .before .args in
     fill-accepted W (length (start .mem .now)) (start .s) (start .n)
-    (ruled-by (ranged checked) (c .before .before .enum-told .given .1))
+    (ruled-by (ranged checked) (c .before .before .before .before .enum-told .given .1))
 
 new-requires : tie.Need-new-requires
 new-requires c κs = search needs
@@ -97,6 +100,7 @@ memset-spec =
     refused-requires
     returns
     enum-told
+    slice-aggregate-set-bytes
     fill-byte-requires
     set-bytes-requires
     new-requires

@@ -9,17 +9,23 @@ use Rattle.mem8.proofs.move_bytes.Tie as tie
 
 returns : tie.Need-returns
 returns c =
-    let tested = c .before .before .before .before in
-    let start = tested .before .before .before .args in
+    let tested = c .before .before .before .before .before .before .before .before in
+    let start = tested .before .before .before .before .args in
     direction-taken (start .dest) (start .src) (start .n) true (sym (tested .before .forward .ensures) ∙ tested .if1 .taken)
-    (c .before .before .copy-forward .ensures)
+    (c .before .before .before .before .copy-forward .ensures)
+
+same-length-3 : tie.Need-same-length-3
+same-length-3 c = search needs
+
+same-length-4 : tie.Need-same-length-4
+same-length-4 c = search needs
 
 returns-2 : tie.Need-returns-2
 returns-2 c =
-    let tested = c .before .before .before .before in
-    let start = tested .before .before .before .args in
-    direction-taken (start .dest) (start .src) (start .n) false (sym (tested .before .forward .ensures) ∙ tested .if1 .left)
-    (c .before .before .copy-backward .ensures)
+    let turned = c .before .before .before .before .before .before .before .before in
+    let start = turned .before .before .before .before .args in
+    direction-taken (start .dest) (start .src) (start .n) false (sym (turned .before .forward .ensures) ∙ turned .if1 .left)
+    (c .before .before .before .before .copy-backward .ensures)
 
 forward-requires : tie.Need-forward-requires
 forward-requires c κs = search needs
@@ -44,6 +50,8 @@ move-bytes-spec =
     copy-forward-requires
     copy-backward-requires
     same-length
-    returns
     same-length-2
+    returns
+    same-length-3
+    same-length-4
     returns-2)

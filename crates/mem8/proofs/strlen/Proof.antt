@@ -2,7 +2,7 @@
 -- Assumes nothing.
 use mathlib.Core.Path.{_≡_, refl, ap, _∙_}
 use mathlib.Core.Bool.{Bool, true, false, cond}
-use Prim.Native.Nat.{ℕ}
+use Prim.Native.Nat.{ℕ, _%_}
 use lib.Dec.{ltb}
 use lib.ListN.{length}
 use borrow.Author.Needs.{needs}
@@ -61,15 +61,15 @@ returns c =
 
 returns-2 : tie.Need-returns-2
 returns-2 c =
-    let made = c .before .before in
-    let checked = made .before .before .before in
+    let made = c .before .before .before in
+    let checked = made .before .before .before .before .before in
     let start = checked .before .before .args in
-    string-kept W (start .s) (ruled-by (started checked) (made .before .enum-told .given .1))
+    string-kept W (start .s) (start .s % W) (ruled-by (started checked) (made .before .before .before .enum-told .given .1))
     (record {
       found =
           c .before .scan-outcome .ensures ∙ ap scanSaid (made .c-string-length .ensures .found)
           ∙ scan-said (zeroAt W (start .mem .now) (start .s)) (toEnd W (start .mem .now) (start .s));
-      counted = made .c-string-length .ensures .counted;
+      recorded = made .c-string-length .ensures .recorded;
     }) (c .new .ensures)
 
 check-range-requires : tie.Need-check-range-requires
@@ -84,11 +84,14 @@ refused-requires c κs = search needs
 enum-told : tie.Need-enum-told
 enum-told c = search needs
 
+slice-aggregate-c-string-length : tie.Need-slice-aggregate-c-string-length
+slice-aggregate-c-string-length c = search needs
+
 c-string-length-requires : tie.Need-c-string-length-requires
 c-string-length-requires c κs =
-    let checked = c .before .before in
+    let checked = c .before .before .before .before in
     string-accepted W (length (checked .before .before .args .mem .now)) (checked .before .before .args .s)
-    (ruled-by (started checked) (c .enum-told .given .1))
+    (ruled-by (started checked) (c .before .before .enum-told .given .1))
 
 scan-outcome-requires : tie.Need-scan-outcome-requires
 scan-outcome-requires c κs = search needs
@@ -105,6 +108,7 @@ strlen-spec =
     refused-requires
     returns
     enum-told
+    slice-aggregate-c-string-length
     c-string-length-requires
     scan-outcome-requires
     new-requires

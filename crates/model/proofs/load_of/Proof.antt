@@ -1,26 +1,53 @@
--- `model::load_of` is the tally of one load of the width, at any address.
+-- `model::load_of` writes the number of one load, and hands back its tally.
 -- Assumes nothing.
-use mathlib.Core.Path.{ap, _∙_}
+use mathlib.Core.Path.{sym, ap, _∙_}
 use mathlib.Core.List.{[], _∷_}
-use Prim.Native.Nat.{ℕ}
-use borrow.Author.Needs.{needs}
+use Prim.Native.Nat.{ℕ, _+_, _*_}
 use Rattle.model.specs.Access.{load}
+use Rattle.model.specs.Log.{widthCode, perCode}
 use Rattle.model.specs.Tally.{tally}
+use Rattle.model.proofs.LogLaws.{recorded-one}
 use Rattle.model.proofs.TallyLaws.{same-counts}
-use Rattle.model.proofs.Widths.{one-access}
+use Rattle.model.proofs.Widths.{code-back, one-access}
+use borrow.Author.Needs.{needs}
 use Rattle.model.proofs.load_of.Statement.{statement}
 use Rattle.model.proofs.load_of.Tie as tie
 
 width-code-requires : tie.Need-width-code-requires
 width-code-requires c κs = search needs
 
+mul-enter : tie.Need-mul-enter
+mul-enter c = search needs
+
+add-enter : tie.Need-add-enter
+add-enter c = search needs
+
+enter-requires : tie.Need-enter-requires
+enter-requires c κs = search needs
+
 one-at-requires : tie.Need-one-at-requires
 one-at-requires c κs = search needs
 
+same-length : tie.Need-same-length
+same-length c = search needs
+
 returns : tie.Need-returns
-returns c at =
-    same-counts (c .one-at .ensures ∙ one-access _ at (c .before .width-code .ensures .0) .0)
-    ∙ ap (λ (w : ℕ). tally (load w at ∷ [])) (c .before .width-code .ensures .1)
+returns c =
+    let start = c .before .before .before .before .before .before .before .before in
+    let at = start .args .at in
+    let code = c .before .before .before .before .before .before .width-code in
+    recorded-one (load (start .args .width) at) (c .before .before .before .enter .ensures)
+    (ap (λ (i : ℕ). at + perCode * i) (sym (code-back _ (code .ensures .0)) ∙ ap widthCode (code .ensures .1)))
+    (same-counts (c .one-at .ensures ∙ one-access _ at (code .ensures .0) .0) ∙ ap (λ (w : ℕ). tally (load w at ∷ [])) (code .ensures .1))
 
 pub load-of-spec : {M : Type 1} → statement M
-load-of-spec = tie.close (tie.spec width-code-requires one-at-requires returns)
+load-of-spec =
+    tie.close
+    (tie.spec
+    width-code-requires
+    mul-enter
+    add-enter
+    enter-requires
+    one-at-requires
+    same-length
+    returns)

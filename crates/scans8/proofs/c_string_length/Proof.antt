@@ -23,11 +23,14 @@ part-string-scan-end c = search needs
 string-scan-requires : tie.Need-string-scan-requires
 string-scan-requires c κs = search needs
 
+same-length : tie.Need-same-length
+same-length c = search needs
+
 returns : tie.Need-returns
 returns c =
-    let start = c .before .before .before in
+    let start = c .before .before .before .before .before .before .before .before in
     scan-moved (start .args .mem .now) _ (start .args .s) _ (rest-all (start .args .mem .now) (start .args .s / W)) refl
-    (c .string-scan .ensures)
+    (c .before .before .string-scan .ensures)
 
 pub c-string-length-spec : {M : Type 1} → statement M
 c-string-length-spec =
@@ -38,4 +41,5 @@ c-string-length-spec =
     part-string-scan-start
     part-string-scan-end
     string-scan-requires
+    same-length
     returns)

@@ -10,20 +10,23 @@ use Rattle.words8.specs.Word.{W}
 use Rattle.runs.proofs.Asking.{byte-fit}
 use Rattle.runs.proofs.Passed.{Passed, passed-none, passed-all, passed-joinable, byteAt, byte-more, zero-here}
 use Rattle.scans8.proofs.Scanning.{scan-found, scan-none}
+use Rattle.model.specs.Log.{logOf}
+use Rattle.model.proofs.LogLaws.{recorded-room}
 use Rattle.scans8.proofs.string_scan.Statement.{statement}
 use Rattle.scans8.proofs.string_scan.Tie as tie
 
 abbrev Inv-loop : tie.InvT-loop
-Inv-loop words s bytes n₀ work₀ n work = Passed (isNull s (view W words)) (byteAt s) bytes n work
+Inv-loop words log₀ place₀ s bytes n₀ work₀ log place n work =
+    Passed (isNull s (view W words)) (byteAt s) bytes n (logOf log₀ place₀) (logOf log place) work
 
 abbrev μ-loop : tie.MeasureT-loop
-μ-loop words s bytes n₀ work₀ n work = bytes - n
+μ-loop words log₀ place₀ s bytes n₀ work₀ log place n work = bytes - n
 
 mul-bytes : tie.Need-mul-bytes Inv-loop μ-loop
-mul-bytes c = omega (arith, c .before .pre .few)
+mul-bytes c = omega (arith, c .before .before .pre .few)
 
 sub-bytes : tie.Need-sub-bytes Inv-loop μ-loop
-sub-bytes c = omega (arith, c .before .pre .inside)
+sub-bytes c = omega (arith, c .before .before .pre .inside)
 
 zero-requires : tie.Need-zero-requires Inv-loop μ-loop
 zero-requires c κs = search needs
@@ -32,29 +35,32 @@ loop-holds : tie.Need-loop-holds Inv-loop μ-loop
 loop-holds c = passed-none (c .zero .ensures)
 
 add-load : tie.Need-add-load Inv-loop μ-loop
-add-load c = omega (arith, c .before .before .before .before .pre .few)
+add-load c = omega (arith, c .before .before .before .before .before .before .before .pre .few)
 
 load-requires : tie.Need-load-requires Inv-loop μ-loop
-load-requires c κs = byte-fit (c .before .before .before .before .pre) (omega arith) (omega arith)
+load-requires c κs = byte-fit (c .before .before .before .before .before .before .before .pre) (omega arith) (omega arith)
 
 returns : tie.Need-returns Inv-loop μ-loop
 returns c =
-    let start = c .before .before .before .before .before .before .before .before in
-    let inv = c .before .before .before .before .before .loop .inv in
-    scan-found (view W (start .args .words .now)) _ (zero-here (view W (start .args .words .now)) _ inv (c .before .before .before .before .loop-test .taken) (c .before .before .before .load .ensures) (c .if1 .taken) (c .before .before .join .ensures))
-    (c .before .before .before .before .loop-test .taken)
+    let start = c .before .before .before .before .before .before .before .before .before .before .before .before .before in
+    let inv = c .before .before .before .before .before .before .before .before .before .loop .inv in
+    scan-found (view W (start .args .words .now)) _ (zero-here (view W (start .args .words .now)) _ inv (c .before .before .before .before .before .before .before .before .loop-test .taken) (c .before .before .before .before .before .load .ensures) (c .if1 .taken) (c .before .before .join .ensures))
+    (c .before .before .before .before .before .before .before .before .loop-test .taken)
+
+same-length : tie.Need-same-length Inv-loop μ-loop
+same-length c = recorded-room (returns c .recorded)
 
 loop-again : tie.Need-loop-again Inv-loop μ-loop
 loop-again c =
-    let start = c .before .before .before .before .before .before .before .before in
-    let inv = c .before .before .before .before .before .loop .inv in
-    byte-more (view W (start .args .words .now)) _ inv (c .before .before .before .before .loop-test .taken) (c .before .before .before .load .ensures) (c .if1 .left) (c .before .before .join .ensures)
+    let start = c .before .before .before .before .before .before .before .before .before .before .before .before .before in
+    let inv = c .before .before .before .before .before .before .before .before .before .loop .inv in
+    byte-more (view W (start .args .words .now)) _ inv (c .before .before .before .before .before .before .before .before .loop-test .taken) (c .before .before .before .before .before .load .ensures) (c .if1 .left) (c .before .before .join .ensures)
 
 join-requires : tie.Need-join-requires Inv-loop μ-loop
 join-requires c κs =
-    let start = c .before .before .before .before .before in
-    let inv = c .before .before .loop .inv in
-    passed-joinable 1 (byteAt _) (λ j. refl) inv (c .load .ensures .counted) (omega (arith, start .pre .few))
+    let start = c .before .before .before .before .before .before .before .before .before .before in
+    let inv = c .before .before .before .before .before .before .loop .inv in
+    passed-joinable 1 (byteAt _) (λ j. refl) inv (c .before .before .load .ensures .recorded) (omega (arith, start .pre .few))
 
 add-n : tie.Need-add-n Inv-loop μ-loop
 add-n c = omega arith
@@ -64,9 +70,12 @@ loop-less c = omega arith
 
 returns-2 : tie.Need-returns-2 Inv-loop μ-loop
 returns-2 c =
-    let start = c .before .before .before .before in
+    let start = c .before .before .before .before .before in
     let inv = c .before .loop .inv in
     scan-none (view W (start .args .words .now)) _ (passed-all inv (c .loop-test .left))
+
+same-length-2 : tie.Need-same-length-2 Inv-loop μ-loop
+same-length-2 c = recorded-room (returns-2 c .recorded)
 
 pub string-scan-spec : {M : Type 1} → statement M
 string-scan-spec =
@@ -81,8 +90,10 @@ string-scan-spec =
     add-load
     load-requires
     join-requires
+    same-length
     returns
     add-n
     loop-less
     loop-again
+    same-length-2
     returns-2)

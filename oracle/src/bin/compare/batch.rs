@@ -1,5 +1,6 @@
 //! Commands that go to one run of `calls`, which starts with a cleared memory.
 
+use oracle::access::log_difference;
 use oracle::call::BYTES;
 use oracle::machine::{Answer, Machine};
 use oracle::program::Program;
@@ -108,7 +109,10 @@ impl Batch {
                 byte_of(calls, byte),
                 byte_of(&rust, byte)
             ),
-            _ => format!("differs: {line}\n  calls {calls}\n  Rust  {rust}"),
+            _ => {
+                let entry = log_difference(calls, &rust).map_or(String::new(), |entry| format!("\n  {entry}"));
+                format!("differs: {line}\n  calls  {}\n  oracle {}{entry}", short(calls), short(&rust))
+            }
         })
     }
 
@@ -123,6 +127,15 @@ impl Batch {
         short.line(self.lines[self.culprit()].clone());
         short.line(WHOLE.to_string());
         short
+    }
+}
+
+/// A long log is cut: the entry that differs is said by itself.
+fn short(answer: &str) -> String {
+    const MOST: usize = 1_000;
+    match answer.char_indices().nth(MOST) {
+        Some((end, _)) => format!("{} ..", &answer[..end]),
+        None => answer.to_string(),
     }
 }
 

@@ -2,16 +2,21 @@
 
 use crate::batch::{Batch, WHOLE};
 use crate::lines;
+use oracle::call::{LARGEST_ROOM, WORD};
+use oracle::list;
 
 /// How many lines go to one run, and after how many of them the whole memory is read back.
 const LINES: usize = 30_000;
 const LINES_BETWEEN: usize = 1_000;
 const PAIRS: [&str; 4] = ["copy", "move", "compare", "bcmp"];
+const LOGGED: [&str; 2] = ["copy-log", "move-log"];
 
 pub fn batches() -> impl Iterator<Item = Batch> {
     let lines = lines::groups()
         .chain(copies())
         .chain(fills())
+        .chain(logged_copies())
+        .chain(logged_fills())
         .chain(compares())
         .chain(all_bytes())
         .chain(strings())
@@ -41,14 +46,31 @@ fn seen(turn: usize, call: String) -> Group {
     vec![format!("put 0 {}", oracle::text::hex(&bytes)), call, "get 0 64".to_string()]
 }
 
+/// Two ranges of every length in 48 bytes: destination, source and length.
+fn pairs() -> impl Iterator<Item = (u64, u64, u64)> {
+    (0..=48).flat_map(|n| (0..=48 - n).flat_map(move |dest| (0..=48 - n).map(move |src| (dest, src, n))))
+}
+
 /// Every copy and move with both ranges in 48 bytes, and 16 bytes beyond them that must stay.
 fn copies() -> impl Iterator<Item = Group> {
-    (0..=48).flat_map(|n| {
-        let places = (0..=48 - n).flat_map(move |dest| (0..=48 - n).map(move |src| (dest, src)));
-        places.flat_map(move |(dest, src)| {
-            ["copy", "move"].map(|word| seen(dest + src, format!("{word} 6 {dest} {src} {n}")))
-        })
+    pairs().flat_map(|(dest, src, n)| {
+        ["copy", "move"].map(|word| seen((dest + src) as usize, format!("{word} 6 {dest} {src} {n}")))
     })
+}
+
+/// The same with a log.
+fn logged_copies() -> impl Iterator<Item = Group> {
+    pairs().flat_map(|(dest, src, n)| {
+        let copy = rooms(list::of_copy(WORD, dest, src, n).len(), format!("copy-log 6 {dest} {src} {n}"));
+        let shift = rooms(list::of_move(WORD, dest, src, n).len(), format!("move-log 6 {dest} {src} {n}"));
+        copy.chain(shift)
+    })
+}
+
+/// A logged call with room for its list, for one number less, for one more, for none and for the most.
+fn rooms(list: usize, call: String) -> impl Iterator<Item = Group> {
+    let rooms = [list as u64, (list as u64).saturating_sub(1), list as u64 + 1, 0, LARGEST_ROOM];
+    rooms.into_iter().enumerate().map(move |(turn, room)| seen(turn, format!("{call} {room}")))
 }
 
 fn fills() -> impl Iterator<Item = Group> {
@@ -56,6 +78,12 @@ fn fills() -> impl Iterator<Item = Group> {
     (0..=48).flat_map(|n| {
         (0..=48 - n).flat_map(move |dest| VALUES.map(|value| seen(dest, format!("fill 6 {dest} {value} {n}"))))
     })
+}
+
+/// Every fill in 48 bytes with a log.
+fn logged_fills() -> impl Iterator<Item = Group> {
+    let places = (0..=48).flat_map(|n| (0..=48 - n).map(move |dest| (dest, n)));
+    places.flat_map(|(dest, n)| rooms(list::of_fill(WORD, dest, n).len(), format!("fill-log 6 {dest} {dest} {n}")))
 }
 
 /// Every compare with both ranges in 16 bytes that are all the same but one, or but none.
@@ -100,7 +128,8 @@ fn strings() -> impl Iterator<Item = Group> {
     })
 }
 
-/// Every call on 0, 1 and 2 words, with each address and length up to a little past their end, and some near 2^64.
+/// Every call on 0, 1 and 2 words, with each address and length up to a little past their end, and some near 2^64. A log has no
+/// room, so that each other refusal must come before that of the log.
 fn refusals() -> impl Iterator<Item = Group> {
     (0..=2).flat_map(|k: u64| {
         let far = [1 << 63, 0u64.wrapping_sub(8 * k + 1), u64::MAX - 15, u64::MAX - 7, u64::MAX - 1, u64::MAX];
@@ -110,8 +139,10 @@ fn refusals() -> impl Iterator<Item = Group> {
             calls.push(format!("strlen {k} {first}"));
             for n in &numbers {
                 calls.push(format!("fill {k} {first} 77 {n}"));
+                calls.push(format!("fill-log {k} {first} 77 {n} 0"));
                 for second in &numbers {
                     calls.extend(PAIRS.map(|word| format!("{word} {k} {first} {second} {n}")));
+                    calls.extend(LOGGED.map(|word| format!("{word} {k} {first} {second} {n} 0")));
                 }
             }
         }

@@ -1,4 +1,4 @@
-//! Holds the outcomes and the memory of `calls` against the Rust.
+//! Holds the outcomes and the memory of `calls` against the Rust, its logs and counts against the oracle's own lists.
 
 mod batch;
 mod exhaustive;
@@ -12,7 +12,11 @@ use std::path::Path;
 use std::process::ExitCode;
 
 /// The faults of the program `wrong`; each must be seen.
-const FAULTS: [&str; 7] = ["byte", "far", "beyond", "adjacent", "order", "sign", "last"];
+#[rustfmt::skip]
+const FAULTS: [&str; 13] = [
+    "byte", "far", "beyond", "adjacent", "order", "sign", "last",
+    "exchanged", "kind", "address", "forward", "left-out", "early",
+];
 
 fn main() -> ExitCode {
     exit(run())

@@ -1,7 +1,8 @@
 //! Calls at random, on a memory that lasts from one to the next.
 
 use crate::batch::{Batch, WHOLE};
-use oracle::call::{BYTES, WORDS};
+use oracle::call::{BYTES, LARGEST_ROOM, WORD, WORDS};
+use oracle::list;
 
 /// How many calls go to one run, and after how many of them the whole memory is read back and given fresh contents.
 const CALLS: usize = 10_000;
@@ -81,6 +82,27 @@ impl Source {
         batch.line(call);
     }
 
+    /// A call, every third time with a log.
+    fn call_or_logged(&mut self, batch: &mut Batch, word: &str, fields: String, list: usize) {
+        if self.one_in(3) {
+            let room = self.room(list as u64);
+            self.call(batch, format!("{word}-log {fields} {room}"));
+        } else {
+            self.call(batch, format!("{word} {fields}"));
+        }
+    }
+
+    /// Most often room for the list; else about that much, or any.
+    fn room(&mut self, list: u64) -> u64 {
+        match self.up_to(7) {
+            0..=3 => list,
+            4 => list.saturating_sub(1),
+            5 => list + self.up_to(16),
+            6 => LARGEST_ROOM,
+            _ => self.up_to(LARGEST_ROOM),
+        }
+    }
+
     /// Every second time the next size in turn, so that each is met; otherwise a small one or any.
     fn words(&mut self) -> u64 {
         if self.calls.is_multiple_of(2) {
@@ -131,18 +153,21 @@ impl Source {
     fn copy(&mut self, batch: &mut Batch, Ranges { k, first, second, n }: Ranges) {
         // As ranges that overlap are refused, most of these are shortened until they do not.
         let n = if self.one_in(8) { n } else { n.min(first.abs_diff(second)) };
-        self.call(batch, format!("copy {k} {first} {second} {n}"));
+        let list = list::of_copy(WORD, first, second, n).len();
+        self.call_or_logged(batch, "copy", format!("{k} {first} {second} {n}"), list);
         self.look(batch, first, n);
     }
 
     fn shift(&mut self, batch: &mut Batch, Ranges { k, first, second, n }: Ranges) {
-        self.call(batch, format!("move {k} {first} {second} {n}"));
+        let list = list::of_move(WORD, first, second, n).len();
+        self.call_or_logged(batch, "move", format!("{k} {first} {second} {n}"), list);
         self.look(batch, first, n);
     }
 
     fn fill(&mut self, batch: &mut Batch, Ranges { k, first, n, .. }: Ranges) {
         let value = self.next() as i32;
-        self.call(batch, format!("fill {k} {first} {value} {n}"));
+        let list = list::of_fill(WORD, first, n).len();
+        self.call_or_logged(batch, "fill", format!("{k} {first} {value} {n}"), list);
         self.look(batch, first, n);
     }
 
@@ -195,10 +220,14 @@ impl Source {
             _ => ranges.n = number,
         }
         let Ranges { k, first, second, n } = ranges;
-        let call = match self.up_to(5) {
+        let room = self.up_to(64);
+        let call = match self.up_to(8) {
             0 => format!("fill {k} {first} {} {n}", self.next() as i32),
             1 => format!("strlen {k} {first}"),
-            word => format!("{} {k} {first} {second} {n}", ["copy", "move", "compare", "bcmp"][word as usize - 2]),
+            2 => format!("fill-log {k} {first} {} {n} {room}", self.next() as i32),
+            3 => format!("copy-log {k} {first} {second} {n} {room}"),
+            4 => format!("move-log {k} {first} {second} {n} {room}"),
+            word => format!("{} {k} {first} {second} {n}", ["copy", "move", "compare", "bcmp"][word as usize - 5]),
         };
         self.call(batch, call);
     }

@@ -1,5 +1,7 @@
 //! The commands of the replay: a fixed list.
 
+use oracle::call::WORD;
+use oracle::list;
 use oracle::text::hex;
 
 const PAIRS: [&str; 4] = ["copy", "move", "compare", "bcmp"];
@@ -36,6 +38,35 @@ const PUTS_AND_GETS: [&str; 28] = [
     "copy 0x2 0X8 0 1", "copy 0x2 0x8 0x0 0xa", "copy 002 0008 0x0 03", "get 0 16", "clear", "get 0 16",
 ];
 
+/// P1 to P10 of document 01 with room for just their list, and with other rooms.
+#[rustfmt::skip]
+const LOGS: [&str; 41] = [
+    "copy-log 16 0 33 16 7 # P3", "get 0 17", "copy-log 16 64 33 16 6 # one number short", "get 64 16",
+    "copy-log 16 64 33 16 0", "get 64 16", "copy-log 16 64 33 16 8", "get 64 16", "copy-log 16 64 33 16 40960",
+    "get 64 16", "copy-log 16 0 32 15 30 # P1", "copy-log 16 0 32 15 29", "copy-log 16 0 32 16 4 # P2",
+    "copy-log 16 0 32 16 3", "copy-log 16 3 40 30 21 # P4", "copy-log 16 3 40 30 20", "copy-log 16 1 40 30 35 # P5",
+    "copy-log 16 1 40 30 34", "get 0 40", "move-log 16 8 8 0 0 # P6", "move-log 16 8 8 0 1",
+    "move-log 16 8 8 16 4 # P7", "move-log 16 8 8 16 3", "move-log 16 9 8 16 20 # one number short", "get 8 18",
+    "move-log 16 9 8 16 21 # P8", "get 8 18", "move-log 16 8 9 16 7 # P9", "get 8 18", "fill-log 16 1 9 16 8",
+    "fill-log 16 1 9 16 0", "get 0 18", "fill-log 16 1 7 16 9 # P10", "get 0 18", "fill-log 16 1 9 16 40960",
+    "get 0 18", "copy-log 0 0 0 0 0", "copy-log 16 128 128 0 0", "move-log 16 128 0 0 0", "fill-log 0 0 0 0 0",
+    "fill-log 16 128 -1 0 40960",
+];
+
+/// What is wrong with a logged call's fields, or looks so: its room is read last.
+#[rustfmt::skip]
+const BAD_LOGS: [&str; 41] = [
+    "copy-log", "copy-log 1", "copy-log 1 0 4 4", "copy-log 1 0 4 4 # 8", "copy-log 1 0 4 4 8 8", "copy-log 1 0 4 4 8 # 8",
+    "move-log 1 0 4 4", "fill-log 1 0 4 4", "copy-log 8193 0 4 4 8", "copy-log 8193", "copy-log 1 0 4 4 40960",
+    "copy-log 1 0 4 4 40961", "copy-log 1 0 4 4 40961 8", "copy-log 1 0 4 4 40961 x", "copy-log 8193 0 4 4 40961",
+    "copy-log 1 x 4 4 40961", "copy-log 1 0 4 -4 40961", "fill-log 1 0 2147483648 4 40961", "copy-log 1 0 4 8 40961",
+    "move-log 8192 0 0 65536 40961", "fill-log 8192 0 0 65536 40961", "copy-log 1 0 4 4 x", "copy-log 1 0 4 4 -8",
+    "copy-log 1 0 4 4 +8", "copy-log 1 0 4 4 8.", "copy-log 1 0 4 4 0x8", "copy-log 1 0 4 4 0xa001", "copy-log 1 0 4 4 0008",
+    "copy-log 1 0 4 4 18446744073709551615", "copy-log 1 0 4 4 18446744073709551616", "copy-log 0x1 0x0 0x4 0x4 8",
+    "copy-logs 1 0 4 4 8", "copy-lo 1 0 4 4 8", "copylog 1 0 4 4 8", "copy -log 1 0 4 4 8", "Copy-log 1 0 4 4 8",
+    "compare-log 1 0 4 4 8", "bcmp-log 1 0 4 4 8", "strlen-log 1 0 8", "copy-log\t1\t0\t4\t4\t8\r", "copy-log#1 0 4 4 8",
+];
+
 /// The tour comes first, so that the lines of its errors have the numbers that a reader of it sees.
 pub fn input() -> Vec<u8> {
     let mut list = List(include_str!("../../../../docs/tour.txt").to_string());
@@ -48,6 +79,10 @@ pub fn input() -> Vec<u8> {
     list.strings();
     list.refusals();
     list.long();
+    list.logs();
+    list.long_logs();
+    list.logs_at_alignments();
+    list.logs_refused();
     list.puts_and_gets();
     list.bad_lines();
     list.long_lines();
@@ -258,6 +293,72 @@ impl List {
         self.lines(&["put 65535 00", "strlen 8192 0", "strlen 8192 1", "strlen 8191 0", "strlen 8192 65535"]);
         self.lines(&["bcmp 8192 0 32768 32768", "compare 8192 32768 0 32768", "fill 8192 3 255 65530"]);
         self.line("get 0 65536");
+    }
+
+    fn logs(&mut self) {
+        self.part("Logs: document 01's P1 to P10, and each edge of the room.");
+        self.put(0, &distinct(128));
+        self.lines(&LOGS);
+    }
+
+    fn long_logs(&mut self) {
+        self.part("Logs of long calls. The move has the longest list of all: 4 x 16,411 = 65,534 + 110.");
+        self.put(0, &distinct(251));
+        for call in [
+            "move-log 8192 1 0 65534 16410",
+            "move-log 8192 1 0 65534 16411",
+            "copy-log 8192 32771 0 32763 40960",
+            "fill-log 8192 1 85 65535 8197",
+            "fill-log 8192 1 85 65535 8198",
+        ] {
+            self.line(call);
+            self.lines(&["get 0 32", "get 32752 48", "get 65504 32"]);
+        }
+    }
+
+    fn logs_at_alignments(&mut self) {
+        self.part("Logs that their list just fills: copies at all 8 x 8 alignments, moves that overlap, fills.");
+        self.put(0, &distinct(160));
+        for n in [1, 15, 16, 17, 23, 24, 31, 40] {
+            for (dest, src) in (0..64).map(|place| (8 + place / 8, 72 + place % 8)) {
+                let room = list::of_copy(WORD, dest, src, n).len();
+                self.line(&format!("copy-log 14 {dest} {src} {n} {room}"));
+            }
+            for (dest, src) in (0..64).map(|place| (16 + place / 8, 16 + place % 8)) {
+                let room = list::of_move(WORD, dest, src, n).len();
+                self.line(&format!("move-log 14 {dest} {src} {n} {room}"));
+            }
+            for dest in 8..16 {
+                let room = list::of_fill(WORD, dest, n).len();
+                self.line(&format!("fill-log 14 {dest} {n} {n} {room}"));
+            }
+            self.line("get 0 160");
+            self.put(0, &distinct(160));
+        }
+    }
+
+    /// Each other refusal beats that of the log, and no refusal changes a byte.
+    fn logs_refused(&mut self) {
+        self.part("Refusals 2 to 4 come before 6, with no room and with enough.");
+        self.put(0, &distinct(128));
+        for room in [0, 1, 40_960] {
+            for call in
+                ["copy-log 16 113 0 16", "copy-log 16 113 113 16", "copy-log 16 129 0 0", "fill-log 16 113 7 16"]
+            {
+                self.line(&format!("{call} {room} # 2"));
+            }
+            for call in ["copy-log 16 0 113 16", "copy-log 16 0 129 0", "move-log 16 0 113 16", "move-log 16 113 0 16"]
+            {
+                self.line(&format!("{call} {room} # 3 or 2"));
+            }
+            for call in ["copy-log 16 0 15 16", "copy-log 16 15 0 16", "copy-log 16 8 8 1"] {
+                self.line(&format!("{call} {room} # 4"));
+            }
+            self.line(&format!("copy-log 16 18446744073709551615 0 1 {room}"));
+            self.line(&format!("fill-log 16 0 7 18446744073709551615 {room}"));
+        }
+        self.line("get 0 128");
+        self.lines(&BAD_LOGS);
     }
 
     fn puts_and_gets(&mut self) {

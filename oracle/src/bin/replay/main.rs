@@ -1,4 +1,5 @@
-//! Makes the input and the answers that stand beside `calls`: outcome and memory from the Rust, counts from its traced accesses.
+//! Makes the input and the answers that stand beside `calls`: outcome and memory from the Rust, counts and logs from its traced
+//! accesses.
 
 mod list;
 
@@ -20,7 +21,7 @@ fn run() -> Result<bool, String> {
     let mut output = String::new();
     for line in &lines {
         if let Some(answer) = &line.answer {
-            output += &answer.words(line.counts());
+            output += &answer.words(line.accesses.as_deref());
             output.push('\n');
         }
     }

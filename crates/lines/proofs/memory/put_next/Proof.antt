@@ -5,7 +5,7 @@ use Rattle.words8.specs.Word.{W}
 use Rattle.model.proofs.ByteLaws.{readLE-one}
 use Rattle.texts.proofs.DigitLaws.{digit-at}
 use Rattle.lines.specs.Bytes.{hexAt}
-use Rattle.lines.proofs.BytesLaws.{hex-byte, put-stored}
+use Rattle.lines.proofs.BytesLaws.{hex-byte, put-laid}
 use borrow.Author.Needs.{needs}
 use native.Mathlib.Omega.{arith}
 use Rattle.lines.proofs.memory.put_next.Statement.{statement}
@@ -20,8 +20,8 @@ add-if2 c = search needs
 next-word-requires : tie.Need-next-word-requires
 next-word-requires c κs = search needs
 
-store-requires : tie.Need-store-requires
-store-requires c κs = search needs
+set-requires : tie.Need-set-requires
+set-requires c κs = search needs
 
 add-result : tie.Need-add-result
 add-result c = search needs
@@ -32,7 +32,7 @@ same-length c = search needs
 returns : tie.Need-returns
 returns c =
     let start = c .before .before .before .before .before .before .before .before .before in
-    put-stored (start .args .hex .now) (start .args .address) (start .args .i) W _ _ (c .before .before .store .ensures) refl (omega arith)
+    put-laid (start .args .hex .now) (start .args .address) (start .args .i) W _ _ (c .before .before .set .ensures) refl (omega arith)
     (omega (arith, c .before .before .before .before .before .if2 .taken))
     (c .before .before .before .next-word .ensures)
 
@@ -60,8 +60,8 @@ two-digits-requires c κs =
       digit-at hex (2 * start .args .i + 1) all (omega (arith, start .pre .2)),
     )
 
-store-requires-2 : tie.Need-store-requires-2
-store-requires-2 c κs = search needs
+set-requires-2 : tie.Need-set-requires-2
+set-requires-2 c κs = search needs
 
 add-result-2 : tie.Need-add-result-2
 add-result-2 c = search needs
@@ -76,7 +76,7 @@ returns-2 c =
     let i = start .args .i in
     let high = digit-at hex (2 * i) (start .pre .1) (omega (arith, start .pre .2)) in
     let low = digit-at hex (2 * i + 1) (start .pre .1) (omega (arith, start .pre .2)) in
-    put-stored hex (start .args .address) i 1 _ _ (c .before .before .store2 .ensures) refl (omega arith) (omega (arith, start .pre .2))
+    put-laid hex (start .args .address) i 1 _ _ (c .before .before .set2 .ensures) refl (omega arith) (omega (arith, start .pre .2))
     (hex-byte hex i _ high low (c .before .before .before .two-digits .ensures) ∙ sym (readLE-one (hexAt hex) i))
 
 pub put-next-spec : {M : Type 1} → statement M
@@ -86,7 +86,7 @@ put-next-spec =
     add-at
     add-if2
     next-word-requires
-    store-requires
+    set-requires
     add-result
     same-length
     returns
@@ -96,7 +96,7 @@ put-next-spec =
     add-two-digits
     shared-slice-read-two-digits-2
     two-digits-requires
-    store-requires-2
+    set-requires-2
     add-result-2
     same-length-2
     returns-2)

@@ -17,9 +17,19 @@ join-requires c κs = search needs
 same-length : tie.Need-same-length
 same-length c = search needs
 
+same-length-2 : tie.Need-same-length-2
+same-length-2 c = search needs
+
 returns : tie.Need-returns
-returns c = ran-pair (c .before .before .before .before .before .load .ensures) (c .before .before .before .store .ensures) (c .join .ensures)
+returns c = ran-pair (c .before .before .before .before .before .before .before .before .before .before .before .load .ensures) (c .before .before .before .before .before .store .ensures) (c .join .ensures)
 
 pub copy-chunk-spec : {M : Type 1} → statement M
 copy-chunk-spec =
-    tie.close (tie.spec load-requires store-requires join-requires same-length returns)
+    tie.close
+    (tie.spec
+    load-requires
+    store-requires
+    join-requires
+    same-length
+    same-length-2
+    returns)
