@@ -42,7 +42,7 @@ pub fn memcpy(mem: &mut [Word], dest: usize, src: usize, n: usize) -> Answer
     Answer::new(Outcome::Address(dest), work)
 }
 
-pub fn move_bytes(
+fn move_bytes(
     mem: &mut [Word],
     log: &mut [u32],
     place: &mut usize,
@@ -76,7 +76,7 @@ pub fn memmove(mem: &mut [Word], dest: usize, src: usize, n: usize) -> Answer
 }
 
 // `c as u8` of mod.rs: c mod 256, as mathematics does it, for negative numbers too.
-pub fn fill_byte(c: i32) -> u8
+fn fill_byte(c: i32) -> u8
     ensures { λ r. ⌜ r ≡ byteOf c ⌝ }
 {
     (c & 255) as u8

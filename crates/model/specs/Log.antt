@@ -47,7 +47,8 @@ unfoldable pub logged : List Access → Log → Log
 logged [] g = g
 logged (x ∷ xs) g = logged xs (entered (entryOf x) g)
 
--- Exactly the accesses xs were made, in this order: from the log g they left g', and their record is that of xs.
+-- Exactly the accesses xs were made, in this order: from the log g they left g', and their record is that of xs. A log that ends before
+-- them keeps the first of them; a routine says this of every log that may be lent to it, and so of one with room for all.
 pub record Recorded (xs : List Access) (g g' : Log) (work : Work) : Type 0 where
   pub noted : g' ≡ logged xs g
   pub counted : work ≡ tally xs
