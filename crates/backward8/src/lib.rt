@@ -1,4 +1,6 @@
 // `copy_backward` of impls.rs with what it is made of, the mirror of `forward8`.
+#![tactic(auto)]
+
 ghost use Rattle.std.specs.Prelude.{◌≡◌, false, [], ◌∷◌, ◌++◌, ◌+◌, ◌-◌, ◌/◌, ◌%◌, ◌<◌, length};
 ghost use Rattle.model.specs.Access.{load, store};
 ghost use Rattle.runs.specs.Asked.{Both, Words, Across};

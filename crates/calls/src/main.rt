@@ -1,5 +1,7 @@
 // The test program: commands in, answers out, as docs/TEXT-FORM.md has them. What a line says and how it is answered is the crate
 // `lines`; here lines are cut out of the input as it streams in, and answers are gathered before they are printed.
+#![tactic(auto)]
+
 ghost use Rattle.std.specs.Prelude.{◌≡◌, ◌-◌, ◌≤◌, length, take};
 ghost use Rattle.bytes.specs.Bytes.{slice};
 ghost use Rattle.commands.specs.Sizes.{most_room};
@@ -17,7 +19,7 @@ const MOST_OUTPUT: usize = 2 * LONGEST_ANSWER;
 
 // What is kept from turn to turn: of the input, the bytes from `start` up to `end` are unread; of the output, the first `written` bytes
 // are not printed yet.
-#[derive(Drop)]
+#[derive(Clone, Copy)]
 struct Stream {
     start: usize,
     end: usize,
@@ -33,7 +35,7 @@ struct Stream {
 }
 
 // Where the next answer goes.
-#[derive(Drop)]
+#[derive(Clone, Copy)]
 struct Place {
     at: usize,
     // What waited could not be printed.

@@ -1,5 +1,7 @@
 // The refusals of documents 01 and 02 that are known from the number of words, the room of a log, addresses and length, in the order of the
 // table.
+#![tactic(auto)]
+
 pub mod lengths;
 
 ghost use Rattle.std.specs.Prelude.{◌≡◌, [], ◌∷◌, ◌+◌, ◌*◌, ◌-◌};

@@ -4,14 +4,14 @@ ghost use Rattle.texts.specs.Texts.{front};
 ghost use Rattle.commands.specs.Fields.{blank, belongs, after_fields, field_at, Spans};
 
 // What a byte of a line may belong to.
-#[derive(Drop)]
+#[derive(Clone, Copy)]
 pub enum Kind {
     Blank,
     Field,
 }
 
 // Where a field stands.
-#[derive(Drop)]
+#[derive(Clone, Copy)]
 pub struct Span {
     pub start: usize,
     pub end: usize,

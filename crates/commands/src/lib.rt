@@ -1,4 +1,6 @@
 // What a line of text says: docs/TEXT-FORM.md, as functions on slices.
+#![tactic(auto)]
+
 mod fields;
 
 ghost use Rattle.std.specs.Prelude.{◌≡◌, ◌<◌, ◌≤◌, length};
@@ -28,7 +30,7 @@ const MOST_FIELDS: usize = 5;
 const ROWS: usize = 12;
 
 // Why a line is bad.
-#[derive(Drop)]
+#[derive(Clone, Copy)]
 pub enum Why {
     TooLong,
     UnknownWord,
@@ -41,7 +43,7 @@ pub enum Why {
 }
 
 // The calls that take two ranges.
-#[derive(Drop)]
+#[derive(Clone, Copy)]
 pub enum Call {
     Copy,
     Move,
@@ -49,7 +51,7 @@ pub enum Call {
     Bcmp,
 }
 
-#[derive(Drop)]
+#[derive(Clone, Copy)]
 pub enum Command {
     // A line with no field.
     Nothing,
@@ -72,14 +74,14 @@ pub enum Command {
 }
 
 // What a field is found to be.
-#[derive(Drop)]
+#[derive(Clone, Copy)]
 pub enum Operand {
     Is(usize),
     Not(Why),
 }
 
 // What the fields of a command are found to be.
-#[derive(Drop)]
+#[derive(Clone, Copy)]
 pub enum Found {
     Good,
     Wrong(Why),

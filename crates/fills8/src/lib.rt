@@ -1,4 +1,6 @@
 // `set_bytes` of impls.rs with what it is made of, as the routines of `forward8` are.
+#![tactic(auto)]
+
 ghost use Rattle.std.specs.Prelude.{◌≡◌, ◌/◌, ◌%◌, length};
 ghost use Rattle.model.specs.Fit.{Range};
 ghost use Rattle.model.specs.Lists.{stores, fill_list};

@@ -1,6 +1,8 @@
 // `copy_forward` of impls.rs with what it is made of, in its order and under its names; the partial loads stand with the words. A pointer
 // there is an address here, beside the words that are lent. Each routine passes the log on, in which every access is entered where it is
 // made, and hands back the record of its accesses, joined in their order.
+#![tactic(auto)]
+
 ghost use Rattle.std.specs.Prelude.{◌≡◌, true, [], ◌∷◌, ◌++◌, ◌+◌, ◌-◌, ◌/◌, ◌%◌, ◌<◌, length};
 ghost use Rattle.model.specs.Access.{load, store};
 ghost use Rattle.runs.specs.Asked.{Both, Words, Across};

@@ -1,4 +1,6 @@
 // A line of text is answered: what it says is done to the memory, and the answer is written as a line of text.
+#![tactic(auto)]
+
 mod memory;
 
 ghost use Rattle.std.specs.Prelude.{true, ◌≡◌, ◌≤◌, ◌*◌, ◌+◌, ◌/◌, length, take, replicate};

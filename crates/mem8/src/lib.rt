@@ -1,5 +1,7 @@
 // The six calls of mod.rs, in its order and under its names, over lent words. Each checks its input, and then does what
 // mod.rs does. None asks anything of its caller. They lend a log of no places: every access is written to it, and none is kept.
+#![tactic(auto)]
+
 pub mod logged;
 
 ghost use Rattle.std.specs.Prelude.{◌≡◌, length};

@@ -1,4 +1,6 @@
 // What both cores share: the record of accesses, the log that they are written to, and the answer of a call.
+#![tactic(auto)]
+
 ghost use Rattle.std.specs.Prelude.{◌≡◌, ℕ, ◌+◌, ◌^◌, ◌%◌, ◌<◌, set, replicate};
 ghost use mathlib.Core.List.{[], ◌∷◌, zip_with};
 ghost use Rattle.model.specs.Access.{load, store};
@@ -7,13 +9,13 @@ ghost use Rattle.model.specs.Tally.{tally, joined, Summable, Joinable};
 ghost use Rattle.model.specs.Answers.{answered, replied, refused, said_of, number_of};
 
 // How many loads of 1, 2, 4 and 8 bytes were made, then how many stores of 1, 2, 4 and 8 bytes.
-#[derive(Drop)]
+#[derive(Clone, Copy)]
 pub struct Counts {
     pub numbers: [u64; 8],
 }
 
 // What a routine hands back of the accesses that it made: the record that `join` adds up.
-#[derive(Drop)]
+#[derive(Clone, Copy)]
 pub struct Work {
     pub counts: Counts,
 }
@@ -125,7 +127,7 @@ pub fn join(a: Work, b: Work) -> Work
 }
 
 // Document 01's refusals, in the order of its table; `number_of` gives the number of each.
-#[derive(Drop)]
+#[derive(Clone, Copy)]
 pub enum Refusal {
     TooLarge,
     FirstOutside,
@@ -151,13 +153,13 @@ impl Refusal {
 }
 
 // What the checks of a call find, before it makes an access.
-#[derive(Drop)]
+#[derive(Clone, Copy)]
 pub enum Verdict {
     Accept,
     Refuse(Refusal),
 }
 
-#[derive(Drop)]
+#[derive(Clone, Copy)]
 pub enum Outcome {
     Address(usize),
     Number(i32),
@@ -165,7 +167,7 @@ pub enum Outcome {
     Refused(Refusal),
 }
 
-#[derive(Drop)]
+#[derive(Clone, Copy)]
 pub struct Answer {
     pub outcome: Outcome,
     pub counts: Counts,

@@ -1,4 +1,6 @@
 // `compare_bytes` and `c_string_length` of impls.rs, which only load, as the routines of `forward8` are.
+#![tactic(auto)]
+
 ghost use Rattle.std.specs.Prelude.{◌≡◌, ◌%◌, ◌<◌, pos, ◌-ℤ◌, length};
 ghost use Rattle.model.specs.Fit.{Range};
 ghost use Rattle.model.specs.Lists.{compare_list, string_list};
@@ -15,7 +17,7 @@ use words8::access::load;
 use words8::{WORD_SIZE, Word};
 
 // A signed number that was found, and the record of the loads.
-#[derive(Drop)]
+#[derive(Clone, Copy)]
 pub struct Compared {
     pub difference: i32,
     pub work: Work,
@@ -65,13 +67,13 @@ pub fn compare_bytes(
 }
 
 // What a scan for a zero byte finds: how many bytes come before it, or that there is none.
-#[derive(Drop)]
+#[derive(Clone, Copy)]
 pub enum Scan {
     Length(usize),
     NoZero,
 }
 
-#[derive(Drop)]
+#[derive(Clone, Copy)]
 pub struct Scanned {
     pub found: Scan,
     pub work: Work,

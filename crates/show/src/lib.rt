@@ -1,5 +1,7 @@
 // How an answer is written as text: into a buffer that is lent, from a place in it on. Each function hands back the place past what it
 // wrote.
+#![tactic(auto)]
+
 mod write;
 
 ghost use Rattle.std.specs.Prelude.{◌≡◌, ◌++◌, ◌+◌, ◌*◌, ◌^◌, ◌<◌, ◌≤◌, length, take};
@@ -19,7 +21,7 @@ pub use write::{write_byte, write_decimal, write_text};
 const MOST_ANSWER: usize = 210;
 
 // An outcome in two parts: which word says it, and the number behind that.
-#[derive(Drop)]
+#[derive(Clone, Copy)]
 struct Parts {
     word: usize,
     number: u64,

@@ -1,4 +1,6 @@
 // Texts: whether this is that one, a text by its number in a table, and what number a text is.
+#![tactic(auto)]
+
 mod digits;
 mod numbers;
 mod tables;

@@ -5,7 +5,7 @@ ghost use Rattle.texts.specs.Numbers.{Base, digits_in, number_of, opposite, valu
 use crate::digits::digit;
 use crate::tables::starts_with;
 
-#[derive(Drop)]
+#[derive(Clone, Copy)]
 pub enum Number {
     Of(usize),
     None,
@@ -46,7 +46,7 @@ pub fn number_of(s: &[u8]) -> Number
     digits(s, 10, usize::MAX)
 }
 
-#[derive(Drop)]
+#[derive(Clone, Copy)]
 pub enum Value {
     Of(i32),
     None,

@@ -1,5 +1,7 @@
 // Refusal 1 from both sides of its edge: each of the six calls refuses 8,193 lent words, and copy takes the first 8,192 of them.
 // Addresses and lengths are such that no call has another reason to refuse; strlen finds a zero at once.
+#![tactic(auto)]
+
 use mem8::{bcmp, memcmp, memcpy, memmove, memset, strlen};
 use show::print_answer;
 use words8::Word;

@@ -13,7 +13,7 @@ use crate::{WORD_SIZE, Word};
 use model::{Work, load_of, store_of};
 
 // A number that was loaded, and the record of the loads.
-#[derive(Drop)]
+#[derive(Clone, Copy)]
 pub struct Loaded {
     pub value: Word,
     pub work: Work,

@@ -11,7 +11,7 @@ use crate::access::{load, store};
 use model::{Work, join};
 
 // A word that was loaded, of which a part is still to be stored, and the record of the turn that loaded it.
-#[derive(Drop)]
+#[derive(Clone, Copy)]
 pub struct Turn {
     pub prev_word: Word,
     pub work: Work,

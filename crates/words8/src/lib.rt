@@ -1,4 +1,6 @@
 // The lent words: inside a call the only code that touches them, and what is done with the bytes of one word or two.
+#![tactic(auto)]
+
 pub mod access;
 pub mod bytes;
 pub mod chunk;

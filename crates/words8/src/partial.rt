@@ -13,7 +13,7 @@ use crate::{WORD_SIZE, Word};
 use model::{Work, join, zero};
 
 // A partial load under way: the bytes loaded so far, how many they are, and the record of their loads.
-#[derive(Drop)]
+#[derive(Clone, Copy)]
 pub struct Loading {
     pub out: Word,
     pub offset: usize,

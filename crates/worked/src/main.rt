@@ -1,5 +1,7 @@
 // Document 01's worked numbers P1 to P12, the calls that it wants run beside them, and two more: a line for each call, and the bytes that
 // P3 copied.
+#![tactic(auto)]
+
 ghost use Rattle.std.specs.Prelude.{◌≡◌, length};
 ghost use Rattle.model.specs.Fit.{Range};
 ghost use Rattle.words8.specs.Word.{W};

@@ -2,12 +2,8 @@
 -- Assumes nothing.
 use mathlib.Core.Path.{refl}
 use Rattle.model.specs.Tally.{total, tally}
-use Rattle.model.proofs.zero.Statement.{statement}
-use Rattle.model.proofs.zero.Tie as tie
+use Rattle.model.proofs.zero.Goals as goal
 
-returns : tie.Need-returns
+pub returns : goal.returns
 unfolding total tally
 returns c = refl
-
-pub zero-spec : {M : Type 1} → statement M
-zero-spec = tie.close (tie.spec returns)
