@@ -7,8 +7,8 @@ use Rattle.texts.proofs.numbers.number_of.Goals as goal
 pub slice_bounds-digits-count : goal.slice_bounds-digits-count
 slice_bounds-digits-count c = starts-within (48 ∷ 120 ∷ []) _ (sym c.starts_with.ensures ∙ c.if-starts_with.true)
 
-pub UNMATCHED-part-digits-start : goal.UNMATCHED-part-digits-start
-UNMATCHED-part-digits-start c = starts-within (48 ∷ 120 ∷ []) _ (sym c.starts_with.ensures ∙ c.if-starts_with.true)
+pub slice_bounds-digits-start : goal.slice_bounds-digits-start
+slice_bounds-digits-start c = starts-within (48 ∷ 120 ∷ []) _ (sym c.starts_with.ensures ∙ c.if-starts_with.true)
 
 pub returns-then-starts_with : goal.returns-then-starts_with
 unfolding number_of

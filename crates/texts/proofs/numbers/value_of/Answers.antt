@@ -9,19 +9,19 @@ use Rattle.texts.proofs.numbers.value_of.Goals as goal
 pub slice_bounds-digits-count : goal.slice_bounds-digits-count
 slice_bounds-digits-count c = starts-within (45 ∷ []) _ (sym c.starts_with.ensures ∙ c.if-starts_with.true)
 
-pub UNMATCHED-part-digits-start : goal.UNMATCHED-part-digits-start
-UNMATCHED-part-digits-start c = starts-within (45 ∷ []) _ (sym c.starts_with.ensures ∙ c.if-starts_with.true)
+pub slice_bounds-digits-start : goal.slice_bounds-digits-start
+slice_bounds-digits-start c = starts-within (45 ∷ []) _ (sym c.starts_with.ensures ∙ c.if-starts_with.true)
 
 pub returns-in-Of : goal.returns-in-Of
 returns-in-Of c =
     value-below _ (sym c.starts_with.ensures
     ∙ c.if-starts_with.true) _ _ (sym c.digits.ensures
-    ∙ c.n-1.given.1) c.negative.ensures
+    ∙ c.in-Of.is) c.negative.ensures
 
 pub returns-in-None : goal.returns-in-None
 returns-in-None c =
     value-below-none _ (sym c.starts_with.ensures
-    ∙ c.if-starts_with.true) (sym c.digits.ensures ∙ c.enum_told-1.given.1)
+    ∙ c.if-starts_with.true) (sym c.digits.ensures ∙ c.in-None.is)
 
 pub negative-requires : goal.negative-requires
 negative-requires c =
@@ -29,25 +29,25 @@ negative-requires c =
     (take (length c.args.s.now - 1)
     (drop 1 c.args.s.now))
     (sym c.digits.ensures
-    ∙ c.n-1.given.1)
+    ∙ c.in-Of.is)
 
 pub positive-requires : goal.positive-requires
 positive-requires c =
     omega (
       arith,
-      digits_most 10 2147483647 c.n-in-Of-digits-2-1.given.0.0
+      digits_most 10 2147483647 c.in-Of-digits.n
           c.args.s.now
           (sym c.digits-2.ensures
-          ∙ c.n-in-Of-digits-2-1.given.1),
+          ∙ c.in-Of-digits.is),
     )
 
 pub returns-in-Of-digits : goal.returns-in-Of-digits
 returns-in-Of-digits c =
     value-above _ (sym c.starts_with.ensures
     ∙ c.if-starts_with.false) _ _ (sym c.digits-2.ensures
-    ∙ c.n-in-Of-digits-2-1.given.1) c.positive.ensures
+    ∙ c.in-Of-digits.is) c.positive.ensures
 
 pub returns-in-None-digits : goal.returns-in-None-digits
 returns-in-None-digits c =
     value-above-none _ (sym c.starts_with.ensures
-    ∙ c.if-starts_with.false) (sym c.digits-2.ensures ∙ c.enum_told-in-None-digits-1.given.1)
+    ∙ c.if-starts_with.false) (sym c.digits-2.ensures ∙ c.in-None-digits.is)
