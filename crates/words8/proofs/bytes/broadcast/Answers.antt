@@ -7,20 +7,13 @@ use native.Mathlib.Nat.{dvd_of_mod-eq-zero, le_of_dvd, mod-one, mod-zero}
 use native.Mathlib.Omega.{arith}
 use lib.Bits.{bit_or}
 use lib.Dec.{T, eqb, leb, eqb→eq, leb→le}
-use borrow.Author.Rules.{rules}
 use borrow.Author.Tests.{eq-eqb}
 use Rattle.model.specs.Memory.{read_le}
 use Rattle.model.proofs.ShiftLaws.{doubling}
 use Rattle.model.proofs.Widths.{below, both}
 use Rattle.words8.specs.Word.{W}
-use Rattle.words8.proofs.bytes.broadcast.Statement.{statement}
-use Rattle.words8.proofs.bytes.broadcast.Tie as tie
-
-record So (c broadcast bits : ℕ) : Type 0 where
-  n : ℕ
-  size : bits ≡ 8 * n
-  divides : W % n ≡ 0
-  word : broadcast ≡ read_le (λ x. c) 0 n
+use Rattle.words8.proofs.bytes.broadcast.Invariants.{So}
+use Rattle.words8.proofs.bytes.broadcast.Goals as goal
 
 -- A part of the word that is not the whole of it can be doubled.
 doubles : ℕ → Bool
@@ -41,8 +34,7 @@ whole {c} s l =
     s.word
     ∙ ap (read_le (λ x. c) 0) (omega (arith, le_of_dvd {m = s.n} {n = W} (omega arith) (dvd_of_mod-eq-zero s.n s.divides)))
 
-twice : {c broadcast bits : ℕ} → c < 256 → So c broadcast bits → bits < 8 * W
-    → So c (bit_or broadcast (broadcast * 2 ^ bits % 2 ^ (8 * W))) (bits * 2)
+twice : {c broadcast bits : ℕ} → c < 256 → So c broadcast bits → bits < 8 * W → So c (bit_or broadcast (broadcast * 2 ^ bits % 2 ^ (8 * W))) (bits * 2)
 twice {c} h s l = record {
   n = s.n + s.n;
   size = omega arith;
@@ -50,44 +42,15 @@ twice {c} h s l = record {
   word = rw s.word (doubling W s.n c h (doubled s.n s.divides (omega arith)).0 s.size);
 }
 
-abbrev invariant-loop : tie.invariant-loop
-invariant-loop c word-bits broadcast₀ bits₀ broadcast bits = So c broadcast bits
-
-abbrev decreases-loop : tie.decreases-loop
-decreases-loop c word-bits broadcast₀ bits₀ broadcast bits = 8 * W - bits
-
-bits-requires : tie.Need-bits-requires invariant-loop decreases-loop
-bits-requires c κs = search rules
-
-loop-holds : tie.Need-loop-init invariant-loop decreases-loop
+pub loop-bits-init : goal.loop-bits-init
 unfolding read_le
-loop-holds c = record { n = 1; size = omega arith; divides = mod-one W; word = omega arith }
+loop-bits-init c = record { n = 1; size = omega arith; divides = mod-one W; word = omega arith }
 
-shl-broadcast : tie.Need-overflow-shl-broadcast invariant-loop decreases-loop
-shl-broadcast c = search rules
+pub loop-bits-smaller : goal.loop-bits-smaller
+loop-bits-smaller c = omega (arith, some c.loop-bits.invariant.n c.loop-bits.invariant.divides)
 
-mul-bits : tie.Need-overflow-mul-bits invariant-loop decreases-loop
-mul-bits c = search rules
+pub loop-bits-preserved : goal.loop-bits-preserved
+loop-bits-preserved c = twice (omega arith) c.loop-bits.invariant (omega arith)
 
-loop-less : tie.Need-loop-smaller invariant-loop decreases-loop
-loop-less c = omega (arith, some c.before.loop.invariant.n c.before.loop.invariant.divides)
-
-loop-again : tie.Need-loop-preserved invariant-loop decreases-loop
-loop-again c = twice (omega arith) c.before.loop.invariant (omega arith)
-
-returns : tie.Need-returns invariant-loop decreases-loop
-returns c = whole c.before.loop.invariant (omega arith)
-
-pub broadcast-spec : {M : Type 1} → statement M
-broadcast-spec =
-    tie.close
-    (tie.spec
-    invariant-loop
-    decreases-loop
-    bits-requires
-    loop-holds
-    shl-broadcast
-    mul-bits
-    loop-less
-    loop-again
-    returns)
+pub returns : goal.returns
+returns c = whole c.loop-bits.invariant (omega arith)
