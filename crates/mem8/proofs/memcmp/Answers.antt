@@ -1,0 +1,34 @@
+-- `mem8::memcmp`: refused by its table, or its list is C's memcmp up to the first difference (`compare_kept`).
+-- Assumes nothing.
+use mathlib.Core.Path.{ap, ◌∙◌}
+use lib.IntN.{ℤ}
+use lib.ListN.{length}
+use mir.Facts.{to_z-of_z}
+use mir.Syntax.{w32}
+use Rattle.model.specs.Answers.{a_number, replied}
+use Rattle.model.proofs.RefusalLaws.{ranges-accepted}
+use Rattle.words8.specs.Word.{W}
+use Rattle.runs.proofs.Kept.{ruled_by, compare_refused, compare_kept}
+use Rattle.mem8.proofs.memcmp.Goals as goal
+
+pub returns-in-Refuse : goal.returns-in-Refuse
+returns-in-Refuse c =
+    let start = c.args in
+    compare_refused W start.s1 start.s2 start.n
+    (ruled_by c.check_ranges.ensures c.in-Refuse.is) c.refused.ensures
+
+pub returns : goal.returns
+returns c =
+    let checked = (goal.at.returns c).PLACE in
+    let start = checked.before.before.args in
+    compare_kept W start.s1 start.s2 start.n
+    (ruled_by checked.check-ranges.ensures c.in_default.is) c.compare_bytes-compared.ensures
+    (c.new.ensures
+    ∙ ap (λ (z : ℤ). replied (a_number z) c.compare_bytes-compared.result.work)
+    (to_z-of_z {w = w32} (record { sfits = c.struct_told-1.given.0.1 })))
+
+pub compare_bytes-compared-requires : goal.compare_bytes-compared-requires
+compare_bytes-compared-requires c =
+    let start = c.args in
+    ranges-accepted W (length start.mem.now) start.s1 start.s2 start.n
+    (ruled_by c.check_ranges.ensures c.in_default.is)

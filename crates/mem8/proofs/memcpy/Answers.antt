@@ -1,0 +1,29 @@
+-- `mem8::memcpy`: refused by its table, or its list is performed forward, which is C's memcpy (`copy_kept`).
+-- Assumes nothing.
+use native.Mathlib.Omega.{arith}
+use lib.ListN.{length}
+use Rattle.model.proofs.RefusalLaws.{copy_accepted}
+use Rattle.words8.specs.Word.{W}
+use Rattle.runs.proofs.Kept.{ruled_by, copy_refused, copy_kept}
+use Rattle.words8.proofs.WordSize.{core}
+use Rattle.mem8.proofs.memcpy.Goals as goal
+
+pub returns-in-Refuse : goal.returns-in-Refuse
+returns-in-Refuse c =
+    let start = c.args in
+    copy_refused W start.dest start.src start.n
+    (ruled_by c.check_copy.ensures c.in-Refuse.is) c.refused.ensures
+
+pub returns : goal.returns
+returns c =
+    let passed = (goal.at.returns c).PLACE in
+    let checked = passed.before.before in
+    let start = checked.before.before.args in
+    copy_kept core start.dest start.src start.n (λ i. omega (arith, c.slice_known-2-1.given i))
+    (ruled_by checked.check-copy.ensures passed.enum_told.given.1) c.copy_forward-work.ensures c.new.ensures
+
+pub copy_forward-work-requires : goal.copy_forward-work-requires
+copy_forward-work-requires c =
+    let start = c.args in
+    (copy_accepted W (length start.mem.now) start.dest start.src start.n
+    (ruled_by c.check_copy.ensures c.in_default.is)).0
