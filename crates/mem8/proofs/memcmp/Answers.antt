@@ -3,6 +3,7 @@
 use mathlib.Core.Path.{ap, ◌∙◌}
 use lib.IntN.{ℤ}
 use lib.ListN.{length}
+use borrow.Author.Rules.{rules}
 use mir.Facts.{to_z-of_z}
 use mir.Syntax.{w32}
 use Rattle.model.specs.Answers.{a_number, replied}
@@ -19,13 +20,11 @@ returns-in-Refuse c =
 
 pub returns : goal.returns
 returns c =
-    let checked = (goal.at.returns c).PLACE in
-    let start = checked.before.before.args in
-    compare_kept W start.s1 start.s2 start.n
-    (ruled_by checked.check-ranges.ensures c.in_default.is) c.compare_bytes-compared.ensures
+    compare_kept W c.args.s1 c.args.s2 c.args.n
+    (ruled_by c.check_ranges.ensures c.in_default.is) c.compare_bytes-compared.ensures
     (c.new.ensures
     ∙ ap (λ (z : ℤ). replied (a_number z) c.compare_bytes-compared.result.work)
-    (to_z-of_z {w = w32} (record { sfits = c.struct_told-1.given.0.1 })))
+    (to_z-of_z {w = w32} (search rules)))
 
 pub compare_bytes-compared-requires : goal.compare_bytes-compared-requires
 compare_bytes-compared-requires c =

@@ -16,11 +16,8 @@ returns-in-Refuse c =
 
 pub returns : goal.returns
 returns c =
-    let passed = (goal.at.returns c).PLACE in
-    let checked = passed.before.before in
-    let start = checked.before.before.args in
-    copy_kept core start.dest start.src start.n (λ i. omega (arith, c.slice_known-2-1.given i))
-    (ruled_by checked.check-copy.ensures passed.enum_told.given.1) c.copy_forward-work.ensures c.new.ensures
+    copy_kept core c.args.dest c.args.src c.args.n (λ i. omega (arith, c.type_inv.mem i))
+    (ruled_by c.check_copy.ensures c.in_default.is) c.copy_forward-work.ensures c.new.ensures
 
 pub copy_forward-work-requires : goal.copy_forward-work-requires
 copy_forward-work-requires c =

@@ -16,11 +16,8 @@ returns-in-Refuse c =
 
 pub returns : goal.returns
 returns c =
-    let passed = (goal.at.returns c).PLACE in
-    let checked = passed.before.before in
-    let start = checked.before.before.args in
-    move_kept core start.dest start.src start.n (λ i. omega (arith, c.slice_known-2-1.given i))
-    (ruled_by checked.check-ranges.ensures passed.enum_told.given.1) c.move_bytes-work.ensures c.new.ensures
+    move_kept core c.args.dest c.args.src c.args.n (λ i. omega (arith, c.type_inv.mem i))
+    (ruled_by c.check_ranges.ensures c.in_default.is) c.move_bytes-work.ensures c.new.ensures
 
 pub move_bytes-work-requires : goal.move_bytes-work-requires
 move_bytes-work-requires c =

@@ -14,53 +14,38 @@ use Rattle.scans8.specs.declared.Scan.TheVariants.{Length, NoZero}
 use Rattle.scans8.specs.Scans.{scan_of}
 use Rattle.mem8.specs.Scanned.{scan_said}
 use Rattle.mem8.proofs.strlen.Goals as goal
+use Rattle.mem8.proofs.strlen.Goals.{After-check_range}
 
 -- What a scan for the first zero says: its place, or refusal 5 where it is the end.
-scan-said : (z m : ℕ) → scan_said (scan_of z m) ≡ cond (ltb z m) (a_length z) (a_refusal 5)
-scan-said z m = go (ltb z m)
+scan_said-scan_of : (z m : ℕ) → scan_said (scan_of z m) ≡ cond (ltb z m) (a_length z) (a_refusal 5)
+scan_said-scan_of z m = go (ltb z m)
   where
     go : (b : Bool) → scan_said (cond b (Length z) NoZero) ≡ cond b (a_length z) (a_refusal 5)
     go true = refl
     go false = refl
 
-abbrev Checked : Type 0
-Checked =
-    lts.After-check-range (
-      check-range-reads.Asked,
-      check-range-reads.Learnt,
-      refused-reads.Asked,
-      refused-reads.Learnt,
-      c-string-length-reads.Asked,
-      c-string-length-reads.Learnt,
-      scan-outcome-reads.Asked,
-      scan-outcome-reads.Learnt,
-      new-reads.Asked,
-      new-reads.Learnt,
-    ) reads.Pre reads.Post
-
 -- What was checked is the start.
-started : (c : Checked) → ruling_of c.check-range.result ≡ ruled (start_table W (length c.before.before.args.mem.now) c.before.before.args.s)
+started : (c : After-check_range) → ruling_of c.check_range.result ≡ ruled (start_table W (length c.args.mem.now) c.args.s)
 unfolding fill_table
-started c = c.check-range.ensures ∙ start_range W (length c.before.before.args.mem.now) c.before.before.args.s
+started c = c.check_range.ensures ∙ start_range W (length c.args.mem.now) c.args.s
 
 pub returns-in-Refuse : goal.returns-in-Refuse
 returns-in-Refuse c =
-    string_refused_lem W c.args.s (ruled_by (started checked) c.in-Refuse.is)
+    string_refused_lem W c.args.s (ruled_by (started (goal.at.returns-in-Refuse c).After-check_range) c.in-Refuse.is)
     c.refused.ensures
 
 pub returns : goal.returns
 returns c =
-    let checked = (goal.at.returns c).PLACE in
-    let start = checked.before.before.args in
-    string_kept W start.s (start.s % W) (ruled_by (started checked) c.in_default.is)
+    let start = c.args in
+    string_kept W start.s (start.s % W) (ruled_by (started (goal.at.returns c).After-check_range) c.in_default.is)
     (record {
       found =
           c.scan_outcome.ensures ∙ ap scan_said c.c_string_length-scanned.ensures.found
-          ∙ scan-said (zero_at W start.mem.now start.s) (to_end W start.mem.now start.s);
+          ∙ scan_said-scan_of (zero_at W start.mem.now start.s) (to_end W start.mem.now start.s);
       recorded = c.c_string_length-scanned.ensures.recorded;
     }) c.new.ensures
 
 pub c_string_length-scanned-requires : goal.c_string_length-scanned-requires
 c_string_length-scanned-requires c =
     string_accepted W (length c.args.mem.now) c.args.s
-    (ruled_by (started checked) c.in_default.is)
+    (ruled_by (started (goal.at.c_string_length-scanned-requires c).After-check_range) c.in_default.is)

@@ -20,5 +20,5 @@ copy_forward-work-requires c =
 pub returns : goal.returns
 returns c =
     let start = c.args in
-    copy_log_kept core start.dest start.src start.n (λ i. omega (arith, c.slice_known-3-1.given i))
+    copy_log_kept core start.dest start.src start.n (λ i. omega (arith, c.type_inv.mem i))
     (ruled_by c.check_copy_logged.ensures c.in_default.is) c.copy_forward-work.ensures c.new.ensures

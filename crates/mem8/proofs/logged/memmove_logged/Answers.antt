@@ -20,5 +20,5 @@ move_bytes-work-requires c =
 pub returns : goal.returns
 returns c =
     let start = c.args in
-    move_log_kept core start.dest start.src start.n (λ i. omega (arith, c.slice_known-3-1.given i))
+    move_log_kept core start.dest start.src start.n (λ i. omega (arith, c.type_inv.mem i))
     (ruled_by c.check_move_logged.ensures c.in_default.is) c.move_bytes-work.ensures c.new.ensures

@@ -23,6 +23,6 @@ set_bytes-work-requires c =
 
 pub returns : goal.returns
 returns c =
-    fill_log_kept core c.args.s c.args.c c.args.n (λ i. omega (arith, c.slice_known-3-1.given i))
+    fill_log_kept core c.args.s c.args.c c.args.n (λ i. omega (arith, c.type_inv.mem i))
     (ruled_by c.check_fill_logged.ensures c.in_default.is)
     (c.fill_byte.ensures ∙ ap byte_of (to_z-of_z c.ranges.c)) c.set_bytes-work.ensures c.new.ensures
