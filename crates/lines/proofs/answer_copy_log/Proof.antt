@@ -6,7 +6,7 @@ use native.Mathlib.Omega.{arith}
 use lib.Seq.{length-take-le}
 use Rattle.words8.specs.Word.{W}
 use Rattle.model.specs.Refusals.{copy_table}
-use Rattle.lists.specs.Sizes.{eight-byte}
+use Rattle.lists.specs.Sizes.{eight_byte}
 use Rattle.lists.proofs.Placed.{along_aligned}
 use Rattle.show.proofs.Writing.{wrote_size}
 use Rattle.lines.specs.Lines.{copy_log_text, copy_log_words}
@@ -52,7 +52,7 @@ unfolding copy_log_text copy_log_words
 returns c =
     let start = c.before.before.before.before.before.before.before.before.before.before.before.before.before.before.before.before.before.before in
     let call = c.before.before.before.before.before.before.before.before.before.before.before in
-    log_moved _ call.memcpy-logged.ensures (along_aligned eight-byte true _ _ _)
+    log_moved _ call.memcpy-logged.ensures (along_aligned eight_byte true _ _ _)
     (ap (λ (k : ℕ). copy_table W k start.args.dest start.args.src start.args.n) (length-take-le _ _ start.requires.0))
     (length-take-le _ _ start.requires.1) c.before.before.before.before.write-logged.ensures
 

@@ -7,7 +7,7 @@ use native.Mathlib.Omega.{arith}
 use lib.Seq.{length-take-le}
 use Rattle.words8.specs.Word.{W}
 use Rattle.model.specs.Refusals.{fill_table}
-use Rattle.lists.specs.Sizes.{eight-byte}
+use Rattle.lists.specs.Sizes.{eight_byte}
 use Rattle.lists.proofs.Placed.{fill_aligned}
 use Rattle.show.proofs.Writing.{wrote_size}
 use Rattle.lines.specs.Lines.{fill_log_text, fill_log_words}
@@ -53,7 +53,7 @@ unfolding fill_log_text fill_log_words
 returns c =
     let start = c.before.before.before.before.before.before.before.before.before.before.before.before.before.before.before.before.before.before in
     let call = c.before.before.before.before.before.before.before.before.before.before.before in
-    log_moved _ (rw (to_z-of_z {w = w32} start.ranges.c) at call.memset-logged.ensures) (fill_aligned eight-byte _ _)
+    log_moved _ (rw (to_z-of_z {w = w32} start.ranges.c) at call.memset-logged.ensures) (fill_aligned eight_byte _ _)
     (ap (λ (k : ℕ). fill_table W k start.args.dest start.args.n) (length-take-le _ _ start.requires.0))
     (length-take-le _ _ start.requires.1) c.before.before.before.before.write-logged.ensures
 
