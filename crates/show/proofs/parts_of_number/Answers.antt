@@ -9,14 +9,13 @@ use lib.Dec.{T}
 use lib.IntN.{ℤ, pos, negsuc, nat_abs, ◌-ℤ◌, +ℤ_idl}
 use lib.Signed.{lt_z, lt_z_no, non_neg, yes_non_neg, nat_abs-le}
 use borrow.Author.Tests.{ltb-true}
-use mir.Facts.{to_z-of_z, sfits_widen, Fits-nat_abs}
+use mir.Facts.{to_z-of_z, sfits_widen}
 use mir.Syntax.{w32, w64}
 use mir.Val.{SFits, to_z, of_z}
 use Rattle.model.specs.Answers.{a_number}
 use Rattle.texts.specs.Texts.{front, text_at}
 use Rattle.show.specs.AnswerText.{said_text, Parted}
-use Rattle.show.proofs.parts_of_number.Statement.{statement}
-use Rattle.show.proofs.parts_of_number.Tie as tie
+use Rattle.show.proofs.parts_of_number.Goals as goal
 
 -- The number as it is read after it was put into 64 bits.
 abbrev wide : ℤ → ℤ
@@ -34,6 +33,7 @@ said-below (negsuc n) below = record { text = refl; short = omega arith }
 said-other : (z : ℤ) → T (non_neg z) → Parted (a_number z) 1 (nat_abs z)
 unfolding said_text text_at front
 said-other (pos n) other = record { text = refl; short = omega arith }
+said-other (negsuc _) other = elim other [ ]
 
 module _ (z : ℤ) (fits : SFits w32 z) where
   widened : wide z ≡ z
@@ -48,32 +48,12 @@ module _ (z : ℤ) (fits : SFits w32 z) where
   distance-fits : SFits w64 (pos (nat_abs z))
   distance-fits = record { sfits = omega (arith, nat_abs-le z fits.sfits) }
 
-cast-wide : tie.Need-overflow-cast-wide
-cast-wide c = rw (to_z-of_z c.ranges.number) (sfits_widen tt c.ranges.number)
+pub returns-then-wide-lt0 : goal.returns-then-wide-lt0
+returns-then-wide-lt0 c =
+    let fits = c.ranges.number in
+    rw (opposite _ fits c.if-wide-lt0.true, to_z-of_z (distance-fits _ fits)) (said-below _ (rw (widened _ fits) at c.if-wide-lt0.true))
 
-sub-t5 : tie.Need-overflow-sub-t5
-sub-t5 c = rw (opposite _ c.before.ranges.number c.if1.true) (distance-fits _ c.before.ranges.number)
-
--- The opposite is read back as it was stored.
-cast-t6 : tie.Need-overflow-cast-t6
-cast-t6 c =
-    rw (opposite _ c.before.ranges.number c.if1.true, to_z-of_z (distance-fits _ c.before.ranges.number))
-    (tt, Fits-nat_abs tt c.before.ranges.number)
-
-cast-t7 : tie.Need-overflow-cast-t7
-cast-t7 c =
-    let fits = c.before.ranges.number in
-    (not-below _ fits c.if1.false, rw (widened _ fits) (Fits-nat_abs tt fits))
-
-returns : tie.Need-returns
-returns c =
-    let fits = c.before.ranges.number in
-    rw (opposite _ fits c.if1.true, to_z-of_z (distance-fits _ fits)) (said-below _ (rw (widened _ fits) at c.if1.true))
-
-returns-2 : tie.Need-returns-2
-returns-2 c =
-    let fits = c.before.ranges.number in
-    rw (widened _ fits) (said-other _ (rw (widened _ fits) at (not-below _ fits c.if1.false)))
-
-pub parts-of-number-spec : {M : Type 1} → statement M
-parts-of-number-spec = tie.close (tie.spec cast-wide sub-t5 cast-t6 cast-t7 returns returns-2)
+pub returns-else-wide-lt0 : goal.returns-else-wide-lt0
+returns-else-wide-lt0 c =
+    let fits = c.ranges.number in
+    rw (widened _ fits) (said-other _ (rw (widened _ fits) at (not-below _ fits c.if-wide-lt0.false)))
