@@ -12,18 +12,18 @@ use lib.ListN.{length}
 use borrow.Author.Tests.{lt-ltb, le-ltb}
 use Rattle.model.specs.Lists.{cursor, past, threshold, head, whole_words, along, fill_list, compare_list, string_list}
 use Rattle.model.proofs.Widths.{below}
-use Rattle.lists.specs.Sizes.{Core, eight-byte, four_byte, ones, word_accesses, run_accesses, accesses, fill_accesses, slack}
+use Rattle.lists.specs.Sizes.{Core, eight_byte, four_byte, ones, word_accesses, run_accesses, accesses, fill_accesses, slack}
 use Rattle.lists.proofs.Cores.{core_some, split}
 use Rattle.lists.proofs.Lengths.{words_length, along-length, fill_length, compare_length, string_length}
 
 -- How many accesses w words of a misaligned source take beyond two for each word.
 extra : {W : ℕ} → Core W → ℕ
-extra eight-byte = 3
+extra eight_byte = 3
 extra four_byte = 2
 
 partials_bound : {W : ℕ} (p : Core W) (o : ℕ) → o < W → ones o + ones (W - o) ≤ 1 + extra p
 unfolding extra ones
-partials_bound eight-byte o l = leb→le (ones o + ones (8 - o)) 4 (below (λ o. leb (ones o + ones (8 - o)) 4) 8 tt o l)
+partials_bound eight_byte o l = leb→le (ones o + ones (8 - o)) 4 (below (λ o. leb (ones o + ones (8 - o)) 4) 8 tt o l)
 partials_bound four_byte o l = leb→le (ones o + ones (4 - o)) 3 (below (λ o. leb (ones o + ones (4 - o)) 3) 4 tt o l)
 
 words_bound : {W : ℕ} (p : Core W) (o w : ℕ) → o < W → 0 < w → word_accesses W o w ≤ 2 * w + extra p
@@ -53,9 +53,9 @@ long_length {W} p up dest src n l =
 pub along_bounded : {W : ℕ} (p : Core W) (up : Bool) (dest src n : ℕ) → 16 ≤ n
     → W / 2 * length (along up W dest src n) ≤ n + slack p
 unfolding extra
-along_bounded eight-byte up dest src n l =
-    let parts = split eight-byte up (cursor up dest n) n l in
-    omega (arith, long_length eight-byte up dest src n l)
+along_bounded eight_byte up dest src n l =
+    let parts = split eight_byte up (cursor up dest n) n l in
+    omega (arith, long_length eight_byte up dest src n l)
 along_bounded four_byte up dest src n l =
     let parts = split four_byte up (cursor up dest n) n l in
     omega (arith, long_length four_byte up dest src n l)
@@ -63,7 +63,7 @@ along_bounded four_byte up dest src n l =
 -- Words are fewer than their bytes, however misaligned.
 words_few : {W : ℕ} (p : Core W) (w : ℕ) → 0 < w → 2 * w + extra p ≤ 2 * (W * w)
 unfolding extra
-words_few eight-byte w l = omega arith
+words_few eight_byte w l = omega arith
 words_few four_byte w l = omega arith
 
 pub whole_words_few : {W : ℕ} → Core W → (up : Bool) (d s w : ℕ) → 0 < w → length (whole_words up W d s w) ≤ 2 * (W * w)

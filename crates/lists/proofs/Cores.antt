@@ -7,22 +7,22 @@ use Prim.Native.Nat.{ℕ, ◌+◌, ◌*◌, ◌-◌, ◌/◌, ◌%◌, ◌<◌, 
 use native.Mathlib.Nat.{mod-lt, mod-eq_of_lt, div-add-mod, le-max_left, le-div_iff_mul-le}
 use native.Mathlib.Omega.{arith}
 use Rattle.model.specs.Lists.{past, near, threshold, head}
-use Rattle.lists.specs.Sizes.{Core, eight-byte, four_byte}
+use Rattle.lists.specs.Sizes.{Core, eight_byte, four_byte}
 
 pub core_some : {W : ℕ} → Core W → 0 < W
-core_some eight-byte = omega arith
+core_some eight_byte = omega arith
 core_some four_byte = omega arith
 
 pub core_quarter : {W : ℕ} → Core W → W % 4 ≡ 0
-core_quarter eight-byte = refl
+core_quarter eight_byte = refl
 core_quarter four_byte = refl
 
 pub core_small : {W : ℕ} → Core W → W ≤ 8
-core_small eight-byte = omega arith
+core_small eight_byte = omega arith
 core_small four_byte = omega arith
 
 pub quarter : {W : ℕ} → Core W → (a : ℕ) → a % W ≡ 0 → a % 4 ≡ 0
-quarter eight-byte a e = omega arith
+quarter eight_byte a e = omega arith
 quarter four_byte a e = e
 
 -- ---- head, words and tail
@@ -33,8 +33,8 @@ pub record Near (up : Bool) (W c m : ℕ) : Type 0 where
   pub boundary : past up c m % W ≡ 0
 
 pub head_near : {W : ℕ} → Core W → (up : Bool) (c : ℕ) → Near up W c (head up W c)
-head_near eight-byte true c = record { small = omega arith; boundary = omega arith }
-head_near eight-byte false c = record { small = omega arith; boundary = omega arith }
+head_near eight_byte true c = record { small = omega arith; boundary = omega arith }
+head_near eight_byte false c = record { small = omega arith; boundary = omega arith }
 head_near four_byte true c = record { small = omega arith; boundary = omega arith }
 head_near four_byte false c = record { small = omega arith; boundary = omega arith }
 

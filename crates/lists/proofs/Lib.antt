@@ -2,13 +2,16 @@ pub mod Ranges
 pub mod Cursors
 pub mod Cores
 pub mod Blocks
+pub mod Amid
 pub mod Walks
+pub mod Safety
 pub mod Performing
 pub mod Partial
 pub mod Walked
 pub mod Filled
 pub mod Performed
 pub mod Covered
+pub mod Inside
 pub mod Placed
 pub mod Lengths
 pub mod Bounds

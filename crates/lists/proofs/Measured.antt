@@ -8,7 +8,7 @@ use Rattle.model.specs.Lists.{upto, pairs, chunks, misaligned, whole_words, phas
 use Rattle.model.specs.Memory.{over}
 use Rattle.model.specs.Tally.{total}
 use Rattle.lists.specs.Cover.{within, loads_at, stores_at}
-use Rattle.lists.specs.Sizes.{eight-byte, four_byte, ones, word_accesses, run_accesses, accesses, fill_accesses, slack}
+use Rattle.lists.specs.Sizes.{eight_byte, four_byte, ones, word_accesses, run_accesses, accesses, fill_accesses, slack}
 
 -- P3's ranges: the destination is 0 to 15, the source 33 to 48.
 abbrev around : List ℕ
@@ -24,7 +24,7 @@ pub record Measured : Type 0 where
   pub P8 : accesses false 8 9 8 16 ≡ 21
   pub P10 : fill_accesses 8 1 16 ≡ 9
   -- Both bounds are reached: by P5, and by a copy on the 4-byte core.
-  pub P5_bound : 4 * accesses true 8 1 40 30 ≡ 30 + slack eight-byte
+  pub P5_bound : 4 * accesses true 8 1 40 30 ≡ 30 + slack eight_byte
   pub narrow_bound : 2 * accesses true 4 1 40 18 ≡ 18 + slack four_byte
   pub P3_loads : map (λ x. total (loads_at x) (copy_list 8 0 33 16)) around
       ≡ 0 ∷ 0 ∷ 0 ∷ 0 ∷ 0 ∷ 1 ∷ 1 ∷ 1 ∷ 1 ∷ 1 ∷ 0 ∷ []

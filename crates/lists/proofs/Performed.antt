@@ -20,7 +20,8 @@ use Rattle.lists.proofs.Ranges.{over_none}
 use Rattle.lists.proofs.Cursors.{cursor_room, cursor_start, cursor_gap}
 use Rattle.lists.proofs.Blocks.{stores_performed}
 use Rattle.lists.proofs.Filled.{fill_block}
-use Rattle.lists.proofs.Performing.{Safe, behind, clear_above, ahead, clear_below, Done, walk_performed}
+use Rattle.lists.proofs.Safety.{Safe, behind, clear_above, ahead, clear_below}
+use Rattle.lists.proofs.Performing.{Done, walk_performed}
 use Rattle.lists.proofs.Walked.{along_walk}
 
 -- ---- from cursors to first addresses

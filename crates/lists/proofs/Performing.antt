@@ -14,15 +14,8 @@ use Rattle.model.proofs.PerformLaws.{perform-append}
 use Rattle.lists.proofs.Ranges.{Outside, before, beyond, over_out, over_not, over_adjacent}
 use Rattle.lists.proofs.Cursors.{Room, room_less, next_chunk}
 use Rattle.lists.proofs.Blocks.{loads_performed}
+use Rattle.lists.proofs.Safety.{Safe, behind, clear_above, ahead, clear_below}
 use Rattle.lists.proofs.Walks.{Walk, stays, loads, stored, both}
-
--- Where no store lands on a source byte that is still to be loaded: going up, the destination begins at or below the source, or past
--- its end; going down, the mirror of it.
-pub data Safe (d s n : ℕ) : Bool → Type 0 where
-  behind : d ≤ s → Safe d s n true
-  clear_above : s + n ≤ d → Safe d s n true
-  ahead : s ≤ d → Safe d s n false
-  clear_below : d + n ≤ s → Safe d s n false
 
 -- No byte is among the k stored and among the next m of the source.
 unspoilt : (up : Bool) (d s n k l m x : ℕ) → Safe d s n up → Room up d n → Room up s n → k ≤ l → l + m ≤ n

@@ -16,8 +16,9 @@ use Rattle.model.specs.Refusals.{none, ruled, ranges_table, copy_table, fill_tab
 use Rattle.model.proofs.FitLaws.{every_upto}
 use Rattle.model.proofs.Widths.{last_width}
 use Rattle.model.proofs.RefusalLaws.{ranges-accepted, fill_accepted, string_accepted, copy_accepted}
-use Rattle.lists.specs.Sizes.{Core, eight-byte, four_byte}
+use Rattle.lists.specs.Sizes.{Core, eight_byte, four_byte}
 use Rattle.lists.proofs.Cores.{core_some}
+use Rattle.lists.proofs.Inside.{fit_in}
 use Rattle.lists.proofs.Cursors.{cursor_room, cursor_start}
 use Rattle.lists.proofs.Blocks.{aligned, block_every}
 use Rattle.lists.proofs.Filled.{fill_block}
@@ -25,7 +26,7 @@ use Rattle.lists.proofs.Walked.{along_walk}
 use Rattle.lists.proofs.Walks.{walk_every}
 
 eight_divided : {W : ℕ} → Core W → (w : ℕ) → W % w ≡ 0 → 8 % w ≡ 0
-eight_divided eight-byte w e = e
+eight_divided eight_byte w e = e
 eight_divided four_byte w e = mod-eq-zero_of_dvd w (dvd-mul_right_of_dvd w (dvd_of_mod-eq-zero w e) 2)
 
 -- A width that divides the word is 1, 2, 4 or 8, and at most the word.
@@ -85,9 +86,6 @@ pub string_aligned : (W s m p : ℕ) → Every (aligns W) (string_list s m p)
 string_aligned W s m p = string_every s m p (λ i l. byte W (s + i))
 
 -- ---- inside
-
-fit_in : {W k w a n : ℕ} (r : ℕ) → Range W k r n → Aligned W w a → r ≤ a → a + w ≤ r + n → Fit W k w a
-fit_in r h p lo hi = record { aligned = p; range = record { few = h.few; inside = omega arith } }
 
 -- Between ranges inside the memory every access of a copy or move is aligned and inside it.
 pub along-fits : {W : ℕ} → Core W → (up : Bool) (k dest src n : ℕ) → Range W k dest n → Range W k src n

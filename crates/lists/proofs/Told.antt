@@ -14,7 +14,7 @@ use Rattle.model.specs.Log.{width_code, per_code, entry_of, log_after, Log, log_
 use Rattle.model.proofs.LogLaws.{log_written, log_place}
 use Rattle.model.proofs.Widths.{code_power}
 use Rattle.model.proofs.WordLaws.{eight_bytes, address_fits}
-use Rattle.lists.specs.Sizes.{Core, eight-byte, four_byte}
+use Rattle.lists.specs.Sizes.{Core, eight_byte, four_byte}
 
 -- What is known of the width and the address of an access that fits.
 record Told (w a : ℕ) : Type 0 where
@@ -23,7 +23,7 @@ record Told (w a : ℕ) : Type 0 where
   address : a < per_code
 
 told : {W k w a : ℕ} → Core W → Fit W k w a → Told w a
-told {w = w} eight-byte f =
+told {w = w} eight_byte f =
     let p = code_power w (eight_bytes refl f.aligned) in
     record { small = p.0; power = p.1; address = address_fits (omega arith) f }
 told {w = w} four_byte f =

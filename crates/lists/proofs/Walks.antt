@@ -16,6 +16,7 @@ use Rattle.model.proofs.TallyLaws.{total-append}
 use Rattle.lists.specs.Cover.{within, loads_at, stores_at}
 use Rattle.lists.proofs.Ranges.{within_adjacent}
 use Rattle.lists.proofs.Cursors.{Room, room_less, next_chunk}
+use Rattle.lists.proofs.Amid.{Among, among}
 use Rattle.lists.proofs.Blocks.{Block, block_once, block_never, block_every}
 
 -- From the cursors d and s, n bytes each: k bytes stored and l loaded before the list, k' and l' after it.
@@ -59,16 +60,6 @@ module _ {W : ℕ} {up : Bool} {d s n : ℕ} where
       walk_total (stores_at x) (λ i j. within (chunk up d i) i x)
       (λ ys i j m h b. rw (block_never (stores_at x) (λ w a. refl) b) (add-zero (within (chunk up d i) i x)))
       (λ w i j h. within_adjacent x (next_chunk up d i w (room_less up d (i + w) n h r))) v
-
--- The w bytes from b lie among the n bytes at a cursor.
-pub record Among (up : Bool) (c n w b : ℕ) : Type 0 where
-  pub low : chunk up c n ≤ b
-  pub high : b + w ≤ chunk up c n + n
-
-among : (up : Bool) (c n k m w b : ℕ) → Room up c n → k + m ≤ n → chunk up (past up c k) m ≤ b
-    → b + w ≤ chunk up (past up c k) m + m → Among up c n w b
-among true c n k m w b r l p q = record { low = omega arith; high = omega arith }
-among false c n k m w b r l p q = record { low = omega arith; high = omega arith }
 
 -- What holds of every aligned load among the source bytes and every aligned store among the destination bytes holds of every access.
 pub walk_every : {W : ℕ} {up : Bool} {d s n : ℕ} {xs : List Access} {k l k' l' : ℕ} {P : Access → Type 0} → Room up d n

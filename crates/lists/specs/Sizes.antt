@@ -5,7 +5,7 @@ use Rattle.model.specs.Lists.{cursor, past, threshold, head}
 
 -- The word sizes that a core may have.
 pub data Core : ℕ → Type 0 where
-  eight-byte : Core 8
+  eight_byte : Core 8
   four_byte : Core 4
 
 -- A partial load of m bytes makes one access for each binary digit 1 of m, which is below 8.
@@ -35,5 +35,5 @@ fill_accesses W s n =
 -- For n of 16 or more, half a word times the accesses of a copy or move is at most n plus this: 4 x length <= n + 110 on 8-byte words,
 -- 2 x length <= n + 22 on 4-byte words.
 abbrev pub slack : {W : ℕ} → Core W → ℕ
-slack eight-byte = 110
+slack eight_byte = 110
 slack four_byte = 22

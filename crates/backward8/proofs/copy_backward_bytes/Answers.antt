@@ -1,0 +1,54 @@
+-- `backward8::copy_backward_bytes` makes the accesses of its list, and leaves what performing it leaves.
+-- Invariant: so many bytes are copied (`Turned`). The measure is the destination's cursor. Assumes nothing.
+use mathlib.Core.Path.{◌≡◌, refl}
+use native.Mathlib.Omega.{arith}
+use Rattle.runs.proofs.Turns.{turned_none, turned_fits, copied_more, copied_joinable}
+use Rattle.model.proofs.LogLaws.{recorded_room}
+use Rattle.backward8.proofs.copy_backward_bytes.Goals as goal
+
+pub overflow_sub-dest_start : goal.overflow_sub-dest_start
+overflow_sub-dest_start c = omega (arith, c.requires.dest.here)
+
+pub loop-dest-init : goal.loop-dest-init
+loop-dest-init c = turned_none refl refl c.zero-work.ensures
+
+pub overflow_sub-dest : goal.overflow_sub-dest
+overflow_sub-dest c = omega (arith, c.loop-dest.invariant.dest, c.requires.dest.here)
+
+pub overflow_sub-src : goal.overflow_sub-src
+overflow_sub-src c =
+    let inv = c.loop-dest.invariant in
+    omega (arith, inv.dest, c.requires.dest.here, inv.src, c.requires.src.here)
+
+pub copy_chunk-turn-requires : goal.copy_chunk-turn-requires
+copy_chunk-turn-requires c =
+    let inv = c.loop-dest.invariant in
+    turned_fits c.requires refl (omega arith) (omega arith) inv
+    (omega (arith, inv.dest, c.requires.dest.here))
+
+pub join-work-requires : goal.join-work-requires
+join-work-requires c =
+    let inv = c.loop-dest.invariant in
+    copied_joinable c.requires inv
+    (omega (arith, inv.dest, c.requires.dest.here))
+    (omega (arith, inv.dest, c.requires.dest.here))
+    c.copy_chunk-turn.ensures
+
+pub loop-dest-smaller : goal.loop-dest-smaller
+loop-dest-smaller c = omega arith
+
+pub loop-dest-preserved : goal.loop-dest-preserved
+loop-dest-preserved c =
+    let inv = c.loop-dest.invariant in
+    copied_more c.requires inv
+    (omega (arith, inv.dest, c.requires.dest.here)) c.copy_chunk-turn.ensures
+    c.join-work.ensures refl refl
+
+pub shape_of-log : goal.shape_of-log
+shape_of-log c = recorded_room c.loop-dest.invariant.ran.recorded
+
+pub returns : goal.returns
+returns c =
+    let all : c.loop-dest.invariant.turns ≡ c.args.n =
+    omega (arith, c.loop-dest.invariant.dest, c.requires.dest.here, c.loop-dest.invariant.within) in
+    rw all at c.loop-dest.invariant.ran
