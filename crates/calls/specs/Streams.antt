@@ -1,7 +1,7 @@
 -- What the turns of the test program keep, and what each does.
 -- Assumes nothing.
-use Rattle.std.specs.Prelude.{◌≡◌, true, false, List, [], ◌++◌, ◌⊎◌, ℕ, ◌+◌, ◌-◌, ◌≤◌, ◌<◌, ◌^◌, length, take, drop, replicate}
-use Rattle.bytes.specs.Bytes.{index_of, slice}
+use Rattle.std.specs.Prelude.{◌≡◌, true, false, List, [], ◌++◌, ◌⊎◌, ℕ, ◌+◌, ◌-◌, ◌≤◌, ◌<◌, ◌^◌, length, take, drop, replicate, ◌==◌}
+use Rattle.std.specs.List.{position_or_len}
 use Rattle.commands.specs.Commands.{command_of}
 use Rattle.lines.specs.Lines.{answer_of, LeftBy}
 use Rattle.commands.specs.Sizes.{most_line, most_room}
@@ -29,8 +29,7 @@ pub record Lent (ws log input out : List ℕ) (stream : Stream) : Type 0 where
   pub sound : Sound stream
   pub counts : stream.number + 1 < 2 ^ 64
 
--- The bytes from place a up to place e, as the language reads `&s[a..e]`. (`slice` is the same list, in the words of the library that finds
--- the newline.)
+-- The bytes from place a up to place e, as the language reads `&s[a..e]`.
 abbrev pub between : ℕ → ℕ → List ℕ → List ℕ
 between a e s = take (e - a) (drop a s)
 
@@ -78,12 +77,16 @@ pub record Within (stream : Stream) (input input' ws ws' out out' : List ℕ) (r
   pub long : stream.skipping ≡ false → most_line < stream.end - stream.start
       → (Took (between stream.start stream.end input) stream.end stream ws ws' out out' r) × (r.skipping ≡ true) × (input' ≡ input)
   pub short : stream.skipping ≡ false → stream.end - stream.start ≤ most_line
-      → (Unanswered stream ws ws' r) × (Joined (slice stream.start stream.end input) input' r)
+      → (Unanswered stream ws ws' r) × (Joined (between stream.start stream.end input) input' r)
   pub skipped : stream.skipping ≡ true → (Unanswered stream ws ws' r) × (Joined [] input' r)
+
+-- Where a number first stands in a list; how long the list is where it stands nowhere.
+abbrev pub index_of : ℕ → List ℕ → ℕ
+index_of b xs = position_or_len (λ x. x == b) xs
 
 -- Where the first newline stands among the unread bytes; their end where there is none.
 abbrev pub newline_at : Stream → List ℕ → ℕ
-newline_at stream input = stream.start + index_of 10 (slice stream.start stream.end input)
+newline_at stream input = stream.start + index_of 10 (between stream.start stream.end input)
 
 -- The rest of a line that was answered was passed over.
 pub record Passed (next : ℕ) (stream : Stream) (ws ws' : List ℕ) (r : Stream) : Type 0 where

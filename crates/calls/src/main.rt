@@ -2,20 +2,21 @@
 // `lines`; here lines are cut out of the input as it streams in, and answers are gathered before they are printed.
 #![tactic(auto)]
 
-ghost use Rattle.std.specs.Prelude.{◌≡◌, ◌-◌, ◌≤◌, length, take};
-ghost use Rattle.bytes.specs.Bytes.{slice};
+ghost use Rattle.std.specs.Prelude.{◌≡◌, ◌+◌, ◌-◌, ◌≤◌, length, take, IfSome};
 ghost use Rattle.commands.specs.Sizes.{most_room};
 ghost use Rattle.calls.specs.Sizes.{most_output, most_input};
-ghost use Rattle.calls.specs.Streams.{zeros, Sound, Lent, between, Roomy, Took, Joined, OneTurn, Ended};
+ghost use Rattle.calls.specs.Streams.{zeros, Sound, Lent, between, index_of, Roomy, Took, Joined, OneTurn, Ended};
 
-use bytes::scan::find;
 use commands::{MOST_LINE, MOST_ROOM};
-use libc::{STDERR_FILENO, STDIN_FILENO, STDOUT_FILENO};
 use lines::{LONGEST_ANSWER, MEMORY_WORDS, answer_line};
+use std::io::Read;
 use words8::Word;
 
 // Room for two of the longest answers.
 const MOST_OUTPUT: usize = 2 * LONGEST_ANSWER;
+
+// The most input that is held at once.
+const MOST_INPUT: usize = 65536;
 
 // What is kept from turn to turn: of the input, the bytes from `start` up to `end` are unread; of the output, the first `written` bytes
 // are not printed yet.
@@ -55,6 +56,12 @@ fn log() -> [u32; MOST_ROOM]
     [0; MOST_ROOM]
 }
 
+fn input() -> [u8; MOST_INPUT]
+    ensures { length result ≡ most_input }
+{
+    [0; MOST_INPUT]
+}
+
 fn output() -> [u8; MOST_OUTPUT]
     ensures { length result ≡ most_output }
 {
@@ -62,18 +69,18 @@ fn output() -> [u8; MOST_OUTPUT]
 }
 
 // Prints what waits, and hands back whether it could. Where it could not, it says so.
-fn print(output: &[u8], written: usize) -> bool
+fn print(rt: &(impl Print + Eprint), output: &[u8], written: usize) -> bool
     requires { written ≤ length output.now }
 {
-    if io::write_all(STDOUT_FILENO, &output[..written]) {
+    if rt.write_all(&output[..written]).is_ok() {
         return true;
     }
-    io::write_all(STDERR_FILENO, b"calls: standard output cannot be written\n");
+    let _ = rt.eprintln("calls: standard output cannot be written");
     false
 }
 
 // What waits is printed where it leaves too little room for an answer.
-fn make_room(output: &[u8], written: usize) -> Place
+fn make_room(rt: &(impl Print + Eprint), output: &[u8], written: usize) -> Place
     requires { written ≤ length output.now }
     ensures { Roomy written result }
 {
@@ -85,13 +92,14 @@ fn make_room(output: &[u8], written: usize) -> Place
     }
     Place {
         at: 0,
-        failed: !print(output, written),
+        failed: !print(rt, output, written),
     }
 }
 
 // Answers the line that ends before place `end` of the input: the next unread byte is the one at `next`, and what comes of the line after
 // it is passed over if `skipping`.
 fn take_line(
+    rt: &(impl Print + Eprint),
     mem: &mut [Word],
     log: &mut [u32],
     input: &[u8],
@@ -107,7 +115,7 @@ fn take_line(
 {
     let start = stream.start;
     let number = stream.number + 1;
-    let place = make_room(output, stream.written);
+    let place = make_room(rt, output, stream.written);
     let written = answer_line(mem, log, &input[start..end], number, output, place.at);
     Stream {
         start: next,
@@ -123,7 +131,7 @@ fn take_line(
 // Moves the bytes from `start` up to `end` to the front, and hands back how many they are.
 fn to_front(input: &mut [u8], start: usize, end: usize) -> usize
     requires { (start ≤ end) × (end ≤ length input.old) }
-    ensures { (result ≡ end - start) × (take result input.new ≡ slice start end input.old) }
+    ensures { (result ≡ end - start) × (take result input.new ≡ between start end input.old) }
 {
     let kept = end - start;
     let mut i = 0;
@@ -134,29 +142,38 @@ fn to_front(input: &mut [u8], start: usize, end: usize) -> usize
     kept
 }
 
-// Reads into `room`, unless what waits could not be printed. Hands back how many bytes came, or a number below 0 where the input could
-// not be read, which it says.
-fn read_more(room: &mut [u8], printed: bool) -> isize {
+// Reads into `room`, unless what waits could not be printed. Hands back how many bytes came, or nothing where the input could not be read,
+// which it says.
+fn read_more(rt: &(impl Input + Eprint), room: &mut [u8], printed: bool) -> Option<usize>
+    ensures { IfSome result (λ came. came ≤ length room.new) }
+{
     if !printed {
-        return -1;
+        return None;
     }
-    let got = libc::read(STDIN_FILENO, room);
-    if got < 0 {
-        io::write_all(STDERR_FILENO, b"calls: standard input cannot be read\n");
+    match rt.reader().read(room) {
+        Ok(came) => Some(came),
+        Err(_) => {
+            let _ = rt.eprintln("calls: standard input cannot be read");
+            None
+        }
     }
-    got
 }
 
 // Reads on. What is left of a line is kept in front of what comes; what waits is printed first, for whoever types the commands.
-fn read_on(input: &mut [u8], output: &[u8], stream: Stream) -> Stream
+fn read_on(
+    rt: &(impl Input + Print + Eprint),
+    input: &mut [u8],
+    output: &[u8],
+    stream: Stream,
+) -> Stream
     requires { (length input.old ≡ most_input) × (length output.now ≡ most_output) × (Sound stream) }
     ensures { (Sound result) × (result.number ≡ stream.number) × (result.skipping ≡ stream.skipping)
-        × (Joined (slice stream.start stream.end input.old) input.new result) }
+        × (Joined (between stream.start stream.end input.old) input.new result) }
 {
-    let printed = print(output, stream.written);
+    let printed = print(rt, output, stream.written);
     let kept = to_front(input, stream.start, stream.end);
-    let got = read_more(&mut input[kept..], printed);
-    let came = io::count(got, &input[kept..]);
+    let got = read_more(rt, &mut input[kept..], printed);
+    let came = got.unwrap_or(0);
     Stream {
         start: 0,
         end: kept + came,
@@ -164,13 +181,25 @@ fn read_on(input: &mut [u8], output: &[u8], stream: Stream) -> Stream
         number: stream.number,
         skipping: stream.skipping,
         more: came > 0,
-        failed: got < 0,
+        failed: got.is_none(),
+    }
+}
+
+// Where the first newline stands from place `start` up to `end`; `end` where none does.
+fn newline_in(input: &[u8], start: usize, end: usize) -> usize
+    requires { (start ≤ end) × (end ≤ length input.now) }
+    ensures { (result ≡ start + index_of 10 (between start end input.now)) × (result ≤ end) }
+{
+    match input[start..end].iter().position(|byte| *byte == b'\n') {
+        Some(place) => start + place,
+        None => end,
     }
 }
 
 // One turn: a line, or what comes next of the input. Without a newline, a line that is too long is answered by what there is of it, and the
 // rest of it is passed over.
 fn turn(
+    rt: &(impl Input + Print + Eprint),
     mem: &mut [Word],
     log: &mut [u32],
     input: &mut [u8],
@@ -182,27 +211,38 @@ fn turn(
         output.old output.new result }
 {
     let end = stream.end;
-    let newline = find(input, stream.start, end, b'\n');
+    let newline = newline_in(input, stream.start, end);
     if stream.skipping {
         if newline == end {
             stream.start = end;
-            return read_on(input, output, stream);
+            return read_on(rt, input, output, stream);
         }
         stream.start = newline + 1;
         stream.skipping = false;
         return stream;
     }
     if newline < end {
-        return take_line(mem, log, input, newline, newline + 1, false, output, stream);
+        return take_line(
+            rt,
+            mem,
+            log,
+            input,
+            newline,
+            newline + 1,
+            false,
+            output,
+            stream,
+        );
     }
     if end - stream.start <= MOST_LINE {
-        return read_on(input, output, stream);
+        return read_on(rt, input, output, stream);
     }
-    take_line(mem, log, input, end, end, true, output, stream)
+    take_line(rt, mem, log, input, end, end, true, output, stream)
 }
 
 // The input has ended: a last line without a newline is answered too, unless something failed.
 fn last_line(
+    rt: &(impl Print + Eprint),
     mem: &mut [Word],
     log: &mut [u32],
     input: &[u8],
@@ -217,21 +257,27 @@ fn last_line(
     if stream.failed || stream.skipping || stream.start == end {
         return stream;
     }
-    take_line(mem, log, input, end, end, false, output, stream)
+    take_line(rt, mem, log, input, end, end, false, output, stream)
 }
 
 // Prints what waits, unless something failed.
-fn finish(output: &[u8], stream: Stream)
+fn finish(rt: &(impl Print + Eprint), output: &[u8], stream: Stream)
     requires { stream.written ≤ length output.now }
 {
     if !stream.failed {
-        print(output, stream.written);
+        print(rt, output, stream.written);
     }
 }
 
 // Answers all the input, from a memory that is all zero. A proved loop has to end, and nothing says that the input does. So the turns are
 // counted down, from a number that no run uses up.
-fn run(mem: &mut [Word], log: &mut [u32], input: &mut [u8], output: &mut [u8])
+fn run(
+    rt: &(impl Input + Print + Eprint),
+    mem: &mut [Word],
+    log: &mut [u32],
+    input: &mut [u8],
+    output: &mut [u8],
+)
     requires { (mem.old ≡ zeros) × (length input.old ≡ most_input) × (length output.old ≡ most_output) × (length log.old ≡ most_room) }
 {
     let mut stream = Stream {
@@ -245,17 +291,17 @@ fn run(mem: &mut [Word], log: &mut [u32], input: &mut [u8], output: &mut [u8])
     };
     let mut turns = u64::MAX - 1;
     while turns > 0 && stream.more && !stream.failed {
-        stream = turn(mem, log, input, output, stream);
+        stream = turn(rt, mem, log, input, output, stream);
         turns -= 1;
     }
-    let last = last_line(mem, log, input, output, stream);
-    finish(output, last);
+    let last = last_line(rt, mem, log, input, output, stream);
+    finish(rt, output, last);
 }
 
-fn main() {
+fn main(rt: HostRuntime) {
     let mut mem = memory();
     let mut log = log();
-    let mut input = io::large_buffer();
+    let mut input = input();
     let mut output = output();
-    run(&mut mem, &mut log, &mut input, &mut output);
+    run(&rt, &mut mem, &mut log, &mut input, &mut output);
 }

@@ -12,8 +12,8 @@ ghost use Rattle.show.specs.LoggedText.{sum_of, written, list_text, logged_text}
 ghost use Rattle.show.specs.Sizes.{most_outcome, most_counts, most_reply, most_answer, most_spaced, most_logged};
 
 use crate::write::{write_spaced, write_worded};
-use libc::STDOUT_FILENO;
 use model::{Answer, Outcome};
+use std::io;
 use texts::text_at;
 pub use write::{write_byte, write_decimal, write_text};
 
@@ -159,10 +159,10 @@ pub fn write_logged(out: &mut [u8], at: usize, answer: Answer, log: &[u32]) -> u
 }
 
 // The name of a call, and its answer: a line for each call.
-pub fn print_answer(name: &[u8], answer: Answer) {
+pub fn print_answer(rt: &impl Print, name: &[u8], answer: Answer) -> io::Result<()> {
     // The space behind the name is the first byte, which stays as it is.
     let mut line = [b' '; 1 + MOST_ANSWER];
     let end = write_answer(&mut line, 1, answer);
-    io::write_all(STDOUT_FILENO, name);
-    io::write_all(STDOUT_FILENO, &line[..end]);
+    rt.write_all(name)?;
+    rt.write_all(&line[..end])
 }

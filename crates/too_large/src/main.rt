@@ -4,15 +4,16 @@
 
 use mem8::{bcmp, memcmp, memcpy, memmove, memset, strlen};
 use show::print_answer;
+use std::io;
 use words8::Word;
 
-fn main() {
+fn main(rt: HostRuntime) -> io::Result<()> {
     let mut memory: [Word; 8193] = [0; 8193];
-    print_answer(b"memcpy", memcpy(&mut memory, 0, 8, 8));
-    print_answer(b"memmove", memmove(&mut memory, 0, 8, 8));
-    print_answer(b"memset", memset(&mut memory, 0, 0, 8));
-    print_answer(b"memcmp", memcmp(&memory, 0, 8, 8));
-    print_answer(b"bcmp", bcmp(&memory, 0, 8, 8));
-    print_answer(b"strlen", strlen(&memory, 0));
-    print_answer(b"memcpy-8192", memcpy(&mut memory[0..8192], 0, 8, 8));
+    print_answer(&rt, b"memcpy", memcpy(&mut memory, 0, 8, 8))?;
+    print_answer(&rt, b"memmove", memmove(&mut memory, 0, 8, 8))?;
+    print_answer(&rt, b"memset", memset(&mut memory, 0, 0, 8))?;
+    print_answer(&rt, b"memcmp", memcmp(&memory, 0, 8, 8))?;
+    print_answer(&rt, b"bcmp", bcmp(&memory, 0, 8, 8))?;
+    print_answer(&rt, b"strlen", strlen(&memory, 0))?;
+    print_answer(&rt, b"memcpy-8192", memcpy(&mut memory[0..8192], 0, 8, 8))
 }

@@ -6,9 +6,9 @@ ghost use Rattle.std.specs.Prelude.{◌≡◌, length};
 ghost use Rattle.model.specs.Fit.{Range};
 ghost use Rattle.words8.specs.Word.{W};
 
-use libc::STDOUT_FILENO;
 use mem8::{bcmp, memcmp, memcpy, memmove, memset, strlen};
 use show::print_answer;
+use std::io;
 use words8::bytes::part;
 use words8::{WORD_SIZE, Word};
 
@@ -30,43 +30,42 @@ fn fresh() -> Memory
 }
 
 // The `n` bytes from address 0 on.
-fn print_bytes(name: &[u8], memory: Memory, n: usize)
+fn print_bytes(rt: &impl Print, name: &[u8], memory: Memory, n: usize) -> io::Result<()>
     requires { Range W 16 0 n }
 {
-    io::write_all(STDOUT_FILENO, name);
-    io::write_all(STDOUT_FILENO, b" bytes");
+    rt.write_all(name)?;
+    rt.write_all(b" bytes")?;
     let mut at = 0;
     while at < n {
         let byte = part(memory[at / WORD_SIZE], at % WORD_SIZE, 1);
-        io::write_all(STDOUT_FILENO, b" ");
-        io::print_hex(STDOUT_FILENO, byte, 2);
+        print!(rt; " {byte:02x}")?;
         at += 1;
     }
-    io::write_all(STDOUT_FILENO, b"\n");
+    rt.write_all(b"\n")
 }
 
 // Hands back the memory, since the bytes of one row are shown too.
-fn copy_row(name: &[u8], dest: usize, src: usize, n: usize) -> Memory {
+fn copy_row(rt: &impl Print, name: &[u8], dest: usize, src: usize, n: usize) -> io::Result<Memory> {
     let mut memory = fresh();
-    print_answer(name, memcpy(&mut memory, dest, src, n));
-    memory
+    print_answer(rt, name, memcpy(&mut memory, dest, src, n))?;
+    Ok(memory)
 }
 
 // No words are lent.
-fn empty_row(name: &[u8]) {
+fn empty_row(rt: &impl Print, name: &[u8]) -> io::Result<()> {
     let mut memory = fresh();
-    print_answer(name, memcpy(&mut memory[0..0], 0, 0, 0));
+    print_answer(rt, name, memcpy(&mut memory[0..0], 0, 0, 0))
 }
 
-fn move_row(name: &[u8], dest: usize, src: usize, n: usize) {
+fn move_row(rt: &impl Print, name: &[u8], dest: usize, src: usize, n: usize) -> io::Result<()> {
     let mut memory = fresh();
-    print_answer(name, memmove(&mut memory, dest, src, n));
+    print_answer(rt, name, memmove(&mut memory, dest, src, n))
 }
 
 // The byte is 0, and no count depends on it.
-fn fill_row(name: &[u8], s: usize, n: usize) {
+fn fill_row(rt: &impl Print, name: &[u8], s: usize, n: usize) -> io::Result<()> {
     let mut memory = fresh();
-    print_answer(name, memset(&mut memory, s, 0, n));
+    print_answer(rt, name, memset(&mut memory, s, 0, n))
 }
 
 // The least byte at address 0 and the greatest at 8.
@@ -79,46 +78,46 @@ fn extremes() -> Memory
     memory
 }
 
-fn compare_row(name: &[u8]) {
+fn compare_row(rt: &impl Print, name: &[u8]) -> io::Result<()> {
     let memory = extremes();
-    print_answer(name, memcmp(&memory, 0, 8, 1));
+    print_answer(rt, name, memcmp(&memory, 0, 8, 1))
 }
 
-fn bcmp_row(name: &[u8]) {
+fn bcmp_row(rt: &impl Print, name: &[u8]) -> io::Result<()> {
     let memory = extremes();
-    print_answer(name, bcmp(&memory, 0, 8, 1));
+    print_answer(rt, name, bcmp(&memory, 0, 8, 1))
 }
 
-fn string_row(name: &[u8], s: usize) {
+fn string_row(rt: &impl Print, name: &[u8], s: usize) -> io::Result<()> {
     let memory = fresh();
-    print_answer(name, strlen(&memory, s));
+    print_answer(rt, name, strlen(&memory, s))
 }
 
-fn worked_rows() {
-    copy_row(b"P1", 0, 32, 15);
-    copy_row(b"P2", 0, 32, 16);
-    let memory = copy_row(b"P3", 0, 33, 16);
-    print_bytes(b"P3", memory, 16);
-    copy_row(b"P4", 3, 40, 30);
-    copy_row(b"P5", 1, 40, 30);
-    move_row(b"P6", 8, 8, 0);
-    move_row(b"P7", 8, 8, 16);
-    move_row(b"P8", 9, 8, 16);
-    move_row(b"P9", 8, 9, 16);
-    fill_row(b"P10", 1, 16);
-    compare_row(b"P11");
-    string_row(b"P12", 128);
+fn worked_rows(rt: &impl Print) -> io::Result<()> {
+    copy_row(rt, b"P1", 0, 32, 15)?;
+    copy_row(rt, b"P2", 0, 32, 16)?;
+    let memory = copy_row(rt, b"P3", 0, 33, 16)?;
+    print_bytes(rt, b"P3", memory, 16)?;
+    copy_row(rt, b"P4", 3, 40, 30)?;
+    copy_row(rt, b"P5", 1, 40, 30)?;
+    move_row(rt, b"P6", 8, 8, 0)?;
+    move_row(rt, b"P7", 8, 8, 16)?;
+    move_row(rt, b"P8", 9, 8, 16)?;
+    move_row(rt, b"P9", 8, 9, 16)?;
+    fill_row(rt, b"P10", 1, 16)?;
+    compare_row(rt, b"P11")?;
+    string_row(rt, b"P12", 128)
 }
 
-fn main() {
-    worked_rows();
+fn main(rt: HostRuntime) -> io::Result<()> {
+    worked_rows(&rt)?;
     // Document 01's "also run".
-    empty_row(b"empty");
-    copy_row(b"overlap", 0, 0, 1);
-    copy_row(b"far", usize::MAX, 0, 1);
-    copy_row(b"both", 128, 136, 8);
-    string_row(b"zero", 0);
+    empty_row(&rt, b"empty")?;
+    copy_row(&rt, b"overlap", 0, 0, 1)?;
+    copy_row(&rt, b"far", usize::MAX, 0, 1)?;
+    copy_row(&rt, b"both", 128, 136, 8)?;
+    string_row(&rt, b"zero", 0)?;
     // The refusal that counts what it read, and bcmp, which is to answer as P11 does.
-    string_row(b"no-zero", 1);
-    bcmp_row(b"bcmp");
+    string_row(&rt, b"no-zero", 1)?;
+    bcmp_row(&rt, b"bcmp")
 }

@@ -1,6 +1,6 @@
 -- `texts::digits::all_digits` counts the digits, and compares.
 -- Invariant: `count` of the first i are digits, so that the others decide where these all are. The measure is what is left. Assumes nothing.
-use Rattle.std.proofs.Common.{◌-◌, sym, refl, ◌∙◌, arith}
+use Rattle.std.proofs.Common.{sym, refl, ◌∙◌, arith}
 use Rattle.texts.proofs.DigitLaws.{all_more, all_end}
 use Rattle.texts.proofs.digits.all_digits.Goals as goal
 

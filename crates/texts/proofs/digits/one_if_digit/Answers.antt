@@ -15,7 +15,7 @@ overflow_add-result-2 c =
 
 pub returns : goal.returns
 returns c =
-    let is = one_digit c.args.byte _ _ _ c.wrapping_sub_u8-decimal.ensures
-    c.wrapping_sub_u8-upper.ensures
-    c.wrapping_sub_u8-lower.ensures (omega arith) (omega arith) (omega arith) in
+    let is = one_digit c.args.byte _ _ _ c.wrapping_sub_u8-decimal.ensures.value
+    c.wrapping_sub_u8-upper.ensures.value
+    c.wrapping_sub_u8-lower.ensures.value (omega arith) (omega arith) (omega arith) in
     (is, one_most _ (ltb (digit_of c.args.byte) 16) is)

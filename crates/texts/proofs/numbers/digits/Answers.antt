@@ -1,14 +1,8 @@
 -- `texts::numbers::digits` reads digits from left to right.
 -- Invariant: what is left, with the value so far, makes the number of the whole. The measure is what is left. Assumes nothing.
-use Rattle.std.proofs.Common.{◌+◌, ◌-◌, ◌*◌, ◌≤◌, sym, ◌∙◌, arith}
+use Rattle.std.proofs.Common.{sym, ◌∙◌, arith}
 use Rattle.texts.proofs.NumberLaws.{digits_begin, digits_none, digit-more, digit-none, digit-passes, digits_end, passes_most, within_most}
 use Rattle.texts.proofs.numbers.digits.Goals as goal
-use Rattle.texts.proofs.numbers.digits.Goals.{Else-value-most}
-
--- The next value passes the test, so it fits.
-within : (c : Else-value-most invariant-loop decreases-loop) → c.loop-i.value * c.args.base + c.digit-next.result ≤ c.args.most
-within c =
-    within_most c.args.base c.args.most _ _ c.requires.some (omega (arith, c.requires)) c.if-value-most.false
 
 pub returns-then-s-eq0 : goal.returns-then-s-eq0
 returns-then-s-eq0 c =
@@ -32,18 +26,17 @@ returns-then-value-most c =
     (passes_most _ _ _ _ (omega arith) (omega arith) c.if-value-most.true))
 
 pub overflow_mul-value : goal.overflow_mul-value
-overflow_mul-value c = omega (arith, within c, c.ranges.most)
+overflow_mul-value c = omega (arith, within_most c.args.base c.args.most _ _ c.requires.some (omega (arith, c.requires)) c.if-value-most.false, c.ranges.most)
 
 pub overflow_add-value : goal.overflow_add-value
-overflow_add-value c = omega (arith, within c, c.ranges.most)
+overflow_add-value c = omega (arith, within_most c.args.base c.args.most _ _ c.requires.some (omega (arith, c.requires)) c.if-value-most.false, c.ranges.most)
 
 pub loop-i-preserved : goal.loop-i-preserved
-loop-i-preserved c =
- (
-      c.loop-i.invariant.0
-          ∙ digit-more _ _ _ _ _ _ c.loop-i-test.true c.digit-next.ensures c.if-next-base.false (within (goal.at.loop-i-preserved c).Else-value-most),
-      within c,
-    )
+loop-i-preserved c = (
+  c.loop-i.invariant.0
+      ∙ digit-more _ _ _ _ _ _ c.loop-i-test.true c.digit-next.ensures c.if-next-base.false (within_most c.args.base c.args.most _ _ c.requires.some (omega (arith, c.requires)) c.if-value-most.false),
+  within_most c.args.base c.args.most _ _ c.requires.some (omega (arith, c.requires)) c.if-value-most.false,
+)
 
 pub returns : goal.returns
 returns c = sym (c.loop-i.invariant.0 ∙ digits_end _ _ _ _ _ c.loop-i-test.false)

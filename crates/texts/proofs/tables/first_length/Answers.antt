@@ -1,7 +1,6 @@
 -- `texts::tables::first_length` counts the bytes before the first `;`.
 -- Invariant: those before place i belong to the text. The measure is what is left. Assumes nothing.
-use Rattle.std.proofs.Common.{◌-◌, not, ap, arith, eq-eqb, ne_eqb}
-use Rattle.texts.specs.Texts.{front}
+use Rattle.std.proofs.Common.{not, ap, arith, eq-eqb, ne_eqb}
 use Rattle.texts.proofs.Fronts.{front-more, front-stops, front_ends}
 use Rattle.texts.proofs.tables.first_length.Goals as goal
 

@@ -1,6 +1,6 @@
 -- `texts::tables::number_in` is the number of a text in a table.
 -- Invariant: it is none of the first i, so that the rest of the table decides. The measure is what is left of `count`. Assumes nothing.
-use Rattle.std.proofs.Common.{◌-◌, sym, ◌∙◌, arith, length-take-le}
+use Rattle.std.proofs.Common.{sym, ◌∙◌, arith, length-take-le}
 use Rattle.texts.proofs.TextLaws.{number_begins, number_here, number_later, number_none}
 use Rattle.texts.proofs.tables.number_in.Goals as goal
 

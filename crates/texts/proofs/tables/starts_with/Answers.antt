@@ -1,6 +1,6 @@
 -- `texts::tables::starts_with` tests whether a text stands in front.
 -- Invariant: up to place i the two are the same, so that what is left decides. The measure is what is left of the text. Assumes nothing.
-use Rattle.std.proofs.Common.{◌-◌, sym, refl, ◌∙◌, arith, eq-eqb, ne_eqb}
+use Rattle.std.proofs.Common.{sym, refl, ◌∙◌, arith, eq-eqb, ne_eqb}
 use Rattle.texts.proofs.Fronts.{starts_short, starts_more, starts_differs, starts_ends}
 use Rattle.texts.proofs.tables.starts_with.Goals as goal
 
