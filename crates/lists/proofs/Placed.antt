@@ -10,7 +10,7 @@ use native.Mathlib.Omega.{arith}
 use lib.Dec.{eqb}
 use borrow.Author.Tests.{eqb-true, eqb-false}
 use Rattle.model.specs.Access.{Access, load, store}
-use Rattle.model.specs.Fit.{Aligned, Fit, Range, aligns, fits, Every, none as empty, next}
+use Rattle.model.specs.Fit.{Aligned, Range, aligns, fits, Every, none as empty, next}
 use Rattle.model.specs.Lists.{along, copy_list, upward, move_list, fill_list, compare_list, string_list}
 use Rattle.model.specs.Refusals.{none, ruled, ranges_table, copy_table, fill_table, start_table}
 use Rattle.model.proofs.FitLaws.{every_upto}

@@ -3,7 +3,7 @@
 -- By arithmetic on one number; by induction on the lists. Assumes nothing.
 use mathlib.Core.Path.{◌≡◌, refl, sym, ap, ap₂, ◌∙◌}
 use mathlib.Core.List.{List, [], ◌∷◌, ◌++◌, map}
-use Prim.Native.Nat.{ℕ, ◌+◌, ◌^◌, ◌<◌, ◌≤◌}
+use Prim.Native.Nat.{ℕ, ◌^◌, ◌<◌, ◌≤◌}
 use native.Mathlib.Nat.{suc_inj, suc-ne-zero}
 use native.Mathlib.Omega.{arith}
 use lib.ListN.{length, get_or, drop}

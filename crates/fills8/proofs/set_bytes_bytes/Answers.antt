@@ -1,7 +1,6 @@
 -- `fills8::set_bytes_bytes` makes the accesses of its list, and leaves what performing it leaves.
 -- Invariant: so many bytes are stored (`FilledTo`). The measure is what is left. Assumes nothing.
 use mathlib.Core.Path.{◌≡◌, refl, sym}
-use Prim.Native.Nat.{◌-◌}
 use native.Mathlib.Omega.{arith}
 use Rattle.model.proofs.ByteLaws.{read_le_one}
 use Rattle.runs.proofs.RanLaws.{ran_fill}

@@ -1,7 +1,7 @@
 -- `fills8::set_bytes_words` makes the accesses of its list, and leaves what performing it leaves.
 -- Invariant: so many words are stored (`FilledTo`). The measure is what is left. Assumes nothing.
 use mathlib.Core.Path.{◌≡◌, refl}
-use Prim.Native.Nat.{◌-◌, ◌/◌}
+use Prim.Native.Nat.{◌/◌}
 use native.Mathlib.Omega.{arith}
 use Rattle.runs.proofs.RanLaws.{ran_fill}
 use Rattle.words8.specs.Word.{W}

@@ -1,7 +1,7 @@
 -- `forward8::copy_forward_aligned_words` makes the accesses of its list, and leaves what performing it leaves.
 -- Invariant: so many words are copied (`Turned`). The measure is what is left. Assumes nothing.
 use mathlib.Core.Path.{◌≡◌, refl}
-use Prim.Native.Nat.{◌-◌, ◌/◌}
+use Prim.Native.Nat.{◌/◌}
 use native.Mathlib.Omega.{arith}
 use Rattle.words8.specs.Word.{W}
 use Rattle.runs.proofs.Turns.{turned_none, turned_fits, copied_more, copied_joinable}

@@ -1,7 +1,6 @@
 -- `forward8::copy_forward_bytes` makes the accesses of its list, and leaves what performing it leaves.
 -- Invariant: so many bytes are copied (`Turned`). The measure is what is left. Assumes nothing.
 use mathlib.Core.Path.{◌≡◌, refl}
-use Prim.Native.Nat.{◌-◌}
 use native.Mathlib.Omega.{arith}
 use Rattle.runs.proofs.Turns.{turned_none, turned_fits, copied_more, copied_joinable}
 use Rattle.model.proofs.LogLaws.{recorded_room}

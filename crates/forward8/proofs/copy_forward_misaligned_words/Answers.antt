@@ -3,7 +3,7 @@
 -- The measure is what is left. Assumes nothing.
 use mathlib.Core.Path.{refl}
 use mathlib.Core.Bool.{true}
-use Prim.Native.Nat.{◌+◌, ◌-◌, ◌%◌}
+use Prim.Native.Nat.{◌+◌, ◌%◌}
 use native.Mathlib.Omega.{arith}
 use Rattle.words8.specs.Word.{W}
 use Rattle.runs.proofs.Straddled.{end_taken, taken_first}

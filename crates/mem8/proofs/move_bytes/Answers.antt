@@ -16,3 +16,8 @@ returns-else-forward c =
     let start = c.args in
     direction_taken start.dest start.src start.n false (sym c.forward.ensures ∙ c.if-forward.false)
     c.copy_backward.ensures
+
+-- The wrong program `onto_itself_elsewhere` has a branch more. Its edit takes the dashes of these lines away: the proof follows the branch,
+-- and only what is false of it is left.
+-- pub returns-then-dest-src : goal.returns-then-dest-src
+-- returns-then-dest-src c = direction_taken c.args.dest c.args.src c.args.n false (sym c.forward.ensures ∙ c.if-forward.false) c.copy_backward.ensures

@@ -1,7 +1,6 @@
 -- `model::sums` gives the eight sums. Invariant: those below i stand in r; the measure is what is left of eight.
 -- Assumes nothing.
 use mathlib.Core.Path.{sym, ◌∙◌}
-use Prim.Native.Nat.{◌-◌}
 use native.Mathlib.Omega.{arith}
 use borrow.Author.Rules.{rules}
 use Rattle.model.proofs.TallyLaws.{from_sums, one_more_sum}

@@ -1,7 +1,7 @@
 -- `scans8::compare_bytes`: the difference of the first unequal pair, or 0, and the loads up to it.
 -- Invariant: the pairs passed are equal, and their loads are recorded (`Passed`). The measure is what is left. Assumes nothing.
 use mathlib.Core.Path.{refl}
-use Prim.Native.Nat.{◌-◌, ◌<◌}
+use Prim.Native.Nat.{◌<◌}
 use native.Mathlib.Omega.{arith}
 use Rattle.model.specs.Memory.{view}
 use Rattle.model.proofs.MemoryLaws.{view_lt}

@@ -1,7 +1,6 @@
 -- `scans8::string_scan`: how many bytes come before the first zero, or that there is none, and the loads up to it.
 -- Invariant: the bytes passed are not zero, and their loads are recorded (`Passed`). The measure is what is left. Assumes nothing.
 use mathlib.Core.Path.{refl}
-use Prim.Native.Nat.{◌-◌}
 use native.Mathlib.Omega.{arith}
 use Rattle.model.specs.Memory.{view}
 use Rattle.words8.specs.Word.{W}
