@@ -196,6 +196,7 @@ fn newline_in(bytes: &[u8]) -> usize
     }
 }
 
+// The same in std's words, which the check knows where the search is all that a function does.
 fn first_newline(bytes: &[u8]) -> Option<usize>
     ensures { result ≡ position (λ byte. byte == 10) bytes.now }
 {
