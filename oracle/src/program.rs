@@ -21,7 +21,7 @@ impl Program {
     pub fn calls(arguments: &mut Arguments) -> Result<Program, String> {
         let path = match arguments.value("--calls")? {
             Some(path) => PathBuf::from(path),
-            None => arguments.root.join("target/bin/calls"),
+            None => arguments.root.join("crates/calls/out/calls"),
         };
         if !path.is_file() {
             return Err(format!("{} is not there: build it, or name another by --calls PATH", path.display()));

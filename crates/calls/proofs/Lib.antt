@@ -1,1 +1,2 @@
 pub mod StreamLaws
+pub mod Moving

@@ -8,9 +8,8 @@ use Prim.Native.Nat.{ℕ, ◌+◌, ◌-◌, ◌≤◌, ◌<◌}
 use native.Mathlib.Omega.{arith}
 use borrow.Author.Tests.{ltb-false}
 use lib.Dec.{ltb}
-use lib.ListN.{length, take, length-replicate}
-use lib.Seq.{take_at, length-take-le, length-slice, slice_empty}
-use Rattle.bytes.specs.Bytes.{slice}
+use lib.ListN.{length, take, drop, length-drop, length-replicate}
+use lib.Seq.{take_at, length-take-le}
 use Rattle.show.proofs.Writing.{wrote_before}
 use Rattle.commands.specs.declared.Command.{Command}
 use Rattle.lines.specs.Lines.{answer_of, Answered}
@@ -29,13 +28,15 @@ pub waits : {ws line ws' out out' : List ℕ} {number at end : ℕ} {command : C
 waits {out = out} written (inl e) a = inl (rw (← e) (wrote_before a.text))
 waits {out = out} written (inr e) a = inr (wrote_before a.text ∙ rw e)
 
+pub length-between : (start end : ℕ) (xs : List ℕ) → end ≤ length xs → length (between start end xs) ≡ end - start
+length-between start end xs l = length-take-le (end - start) (drop start xs) (simp length-drop (omega arith))
+
 -- What was moved to the front stays there, whatever is read behind it. Where nothing came, nothing is behind it.
 pub joined : (start end kept came : ℕ) (input front rest : List ℕ) (r : Stream) → kept ≡ end - start → end ≤ length input → kept ≤ length front
-    → take kept front ≡ slice start end input → r.start ≡ 0 → r.end ≡ kept + came → r.more ≡ ltb 0 came
-    → Joined (slice start end input) (take kept front ++ rest) r
-unfolding slice
+    → take kept front ≡ between start end input → r.start ≡ 0 → r.end ≡ kept + came → r.more ≡ ltb 0 came
+    → Joined (between start end input) (take kept front ++ rest) r
 joined start end kept came input front rest r k inside fits moved first last more =
-    let size : length (slice start end input) ≡ kept = length-slice start end input inside ∙ sym k in
+    let size : length (between start end input) ≡ kept = length-between start end input inside ∙ sym k in
     record {
       start = first;
       end = omega arith;
@@ -52,19 +53,18 @@ module _ (stream r : Stream) (input input' ws out : List ℕ) (sound : Sound r) 
   unanswered = record { number = number; skipping = skipping; memory = refl }
 
   -- No newline, and the line is being passed over.
-  pub within_skipped : stream.skipping ≡ true → Joined (slice stream.end stream.end input) input' r → Within stream input input' ws ws out out r
-  unfolding slice
+  pub within_skipped : stream.skipping ≡ true → Joined (between stream.end stream.end input) input' r → Within stream input input' ws ws out out r
   within_skipped on joined = record {
     sound = sound;
     few = omega arith;
     long = λ off more. absurd (not_both on off);
     short = λ off few. absurd (not_both on off);
-    skipped = λ on'. (unanswered, rw slice_empty at joined);
+    skipped = λ on'. (unanswered, let none : stream.end - stream.end ≡ 0 = omega arith in rw none at joined);
   }
 
   -- No newline, and not too many bytes yet.
   pub within_short : stream.skipping ≡ false → stream.end - stream.start ≤ most_line
-      → Joined (slice stream.start stream.end input) input' r → Within stream input input' ws ws out out r
+      → Joined (between stream.start stream.end input) input' r → Within stream input input' ws ws out out r
   within_short off few joined = record {
     sound = sound;
     few = omega arith;

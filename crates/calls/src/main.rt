@@ -2,7 +2,7 @@
 // `lines`; here lines are cut out of the input as it streams in, and answers are gathered before they are printed.
 #![tactic(auto)]
 
-ghost use Rattle.std.specs.Prelude.{◌≡◌, ◌+◌, ◌-◌, ◌≤◌, length, take, IfSome};
+ghost use Rattle.std.specs.Prelude.{◌≡◌, ◌+◌, ◌-◌, ◌≤◌, length, take, IfSome, ◌==◌, position};
 ghost use Rattle.commands.specs.Sizes.{most_room};
 ghost use Rattle.calls.specs.Sizes.{most_output, most_input};
 ghost use Rattle.calls.specs.Streams.{zeros, Sound, Lent, between, index_of, Roomy, Took, Joined, OneTurn, Ended};
@@ -185,15 +185,22 @@ fn read_on(
     }
 }
 
-// Where the first newline stands from place `start` up to `end`; `end` where none does.
-fn newline_in(input: &[u8], start: usize, end: usize) -> usize
-    requires { (start ≤ end) × (end ≤ length input.now) }
-    ensures { (result ≡ start + index_of 10 (between start end input.now)) × (result ≤ end) }
+// Where the first newline stands; how many the bytes are where none does.
+fn newline_in(bytes: &[u8]) -> usize
+    ensures place { result ≡ index_of 10 bytes.now }
+    ensures within { result ≤ length bytes.now }
 {
-    match input[start..end].iter().position(|byte| *byte == b'\n') {
-        Some(place) => start + place,
-        None => end,
+    match first_newline(bytes) {
+        Some(place) => place,
+        None => bytes.len(),
     }
+}
+
+// The same in std's words, which the check knows where the search is all that a function does.
+fn first_newline(bytes: &[u8]) -> Option<usize>
+    ensures { result ≡ position (λ byte. byte == 10) bytes.now }
+{
+    bytes.iter().position(|byte| *byte == b'\n')
 }
 
 // One turn: a line, or what comes next of the input. Without a newline, a line that is too long is answered by what there is of it, and the
@@ -211,7 +218,7 @@ fn turn(
         output.old output.new result }
 {
     let end = stream.end;
-    let newline = newline_in(input, stream.start, end);
+    let newline = stream.start + newline_in(&input[stream.start..end]);
     if stream.skipping {
         if newline == end {
             stream.start = end;

@@ -3,11 +3,7 @@
 use Prim.Native.Nat.{ℕ}
 use lib.ListN.{length-replicate}
 use Rattle.calls.specs.Sizes.{most_output}
-use Rattle.calls.proofs.output.Statement.{statement}
-use Rattle.calls.proofs.output.Tie as tie
+use Rattle.calls.proofs.output.Goals as goal
 
-returns : tie.Need-returns
+pub returns : goal.returns
 returns c = length-replicate {A = ℕ} most_output 0
-
-pub output-spec : {M : Type 1} → statement M
-output-spec = tie.close (tie.spec returns)
