@@ -4,9 +4,9 @@ use Rattle.model.specs.Tally.{joined}
 use Rattle.model.proofs.TallyLaws.{same_counts, joinable_sums}
 use Rattle.model.proofs.join.Goals as goal
 
-pub sums-numbers-requires : goal.sums-numbers-requires
-sums-numbers-requires c = joinable_sums c.requires
-
 pub returns : goal.returns
 unfolding joined
 returns c = same_counts c.sums-numbers.ensures
+
+pub sums-numbers-requires : goal.sums-numbers-requires
+sums-numbers-requires c = joinable_sums c.requires

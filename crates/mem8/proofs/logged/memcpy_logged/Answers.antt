@@ -8,6 +8,12 @@ use Rattle.runs.proofs.Kept.{ruled_by, log_refused, copy_log_kept}
 use Rattle.words8.proofs.WordSize.{core}
 use Rattle.mem8.proofs.logged.memcpy_logged.Goals as goal
 
+pub returns : goal.returns
+returns c =
+    let start = c.args in
+    copy_log_kept core start.dest start.src start.n (λ i. omega (arith, c.type_inv.mem i))
+    (ruled_by c.check_copy_logged.ensures c.in_default.is) c.copy_forward-work.ensures c.new.ensures
+
 pub returns-in-Refuse : goal.returns-in-Refuse
 returns-in-Refuse c = log_refused _ _ _ _ (ruled_by c.check_copy_logged.ensures c.in-Refuse.is) c.refused.ensures
 
@@ -16,9 +22,3 @@ copy_forward-work-requires c =
     let start = c.args in
     (copy_accepted W (length start.mem.now) start.dest start.src start.n
     (log_accepted _ _ _ (ruled_by c.check_copy_logged.ensures c.in_default.is)).0).0
-
-pub returns : goal.returns
-returns c =
-    let start = c.args in
-    copy_log_kept core start.dest start.src start.n (λ i. omega (arith, c.type_inv.mem i))
-    (ruled_by c.check_copy_logged.ensures c.in_default.is) c.copy_forward-work.ensures c.new.ensures
