@@ -1,11 +1,11 @@
 // How many accesses a copy, move or fill will make, by addresses and length alone: what refusal 6 needs before the first access. It is no
 // count, and no record is made from it.
 ghost use Rattle.std.specs.Prelude.{◌≡◌, true, false, ◌+◌, ◌*◌, ◌-◌, ◌/◌, ◌%◌, ◌^◌, ◌<◌, ◌≤◌, length};
-ghost use Rattle.model.specs.Lists.{along, upward, move_list, fill_list};
+ghost use Rattle.model.specs.Lists.{along, upward, copy_list, move_list, fill_list};
 ghost use Rattle.lists.specs.Sizes.{ones, word_accesses};
 ghost use Rattle.words8.specs.Word.{W};
 
-use words8::{WORD_COPY_THRESHOLD, WORD_SIZE};
+use words8::{BACKWARD, FORWARD, WORD_COPY_THRESHOLD, WORD_SIZE};
 
 // A partial load of `m` bytes: one for each of its binary digits.
 fn ones(m: usize) -> usize
@@ -34,26 +34,28 @@ fn phase_accesses(head: usize, offset: usize, n: usize) -> usize
     2 * head + word_accesses(offset, rest / WORD_SIZE) + 2 * (rest % WORD_SIZE)
 }
 
-pub fn forward_accesses(dest: usize, src: usize, n: usize) -> usize
+// A copy or move in one direction.
+fn along_accesses<const UP: bool>(dest: usize, src: usize, n: usize) -> usize
     requires { (dest + n < 2 ^ 60) × (src + n < 2 ^ 60) }
-    ensures { result ≡ length (along true W dest src n) }
+    ensures { result ≡ length (along UP W dest src n) }
 {
     if n < WORD_COPY_THRESHOLD {
         return 2 * n;
     }
-    let head = (WORD_SIZE - dest % WORD_SIZE) % WORD_SIZE;
-    phase_accesses(head, (src + head) % WORD_SIZE, n)
+    if UP {
+        let head = (WORD_SIZE - dest % WORD_SIZE) % WORD_SIZE;
+        phase_accesses(head, (src + head) % WORD_SIZE, n)
+    } else {
+        let head = (dest + n) % WORD_SIZE;
+        phase_accesses(head, (src + n - head) % WORD_SIZE, n)
+    }
 }
 
-pub fn backward_accesses(dest: usize, src: usize, n: usize) -> usize
+pub fn copy_accesses(dest: usize, src: usize, n: usize) -> usize
     requires { (dest + n < 2 ^ 60) × (src + n < 2 ^ 60) }
-    ensures { result ≡ length (along false W dest src n) }
+    ensures { result ≡ length (copy_list W dest src n) }
 {
-    if n < WORD_COPY_THRESHOLD {
-        return 2 * n;
-    }
-    let head = (dest + n) % WORD_SIZE;
-    phase_accesses(head, (src + n - head) % WORD_SIZE, n)
+    along_accesses::<FORWARD>(dest, src, n)
 }
 
 // Whether a move goes forward: `delta >= n` of mod.rs, whose delta wraps where src is ahead of dest.
@@ -74,9 +76,9 @@ pub fn move_accesses(dest: usize, src: usize, n: usize) -> usize
     ensures { result ≡ length (move_list W dest src n) }
 {
     if forward(dest, src, n) {
-        forward_accesses(dest, src, n)
+        copy_accesses(dest, src, n)
     } else {
-        backward_accesses(dest, src, n)
+        along_accesses::<BACKWARD>(dest, src, n)
     }
 }
 

@@ -1,89 +1,75 @@
--- Laws of the definitions by which a line is read, as loops use them: one field, or one digit, more.
+-- Laws of the definitions by which a line is read: what stands in front, one field, and the fields after it.
 -- Assumes nothing.
-use mathlib.Core.Path.{◌≡◌, refl, sym, ◌∙◌}
-use mathlib.Core.Bool.{true, false, not}
-use mathlib.Core.List.{List, [], ◌∷◌}
-use Prim.Native.Nat.{ℕ, zero, suc, ◌+◌, ◌-◌, ◌<◌, ◌≤◌}
-use native.Mathlib.Omega.{arith}
-use lib.Dec.{eqb}
-use lib.ListN.{length, take, drop, length-drop}
-use lib.Seq.{length-take-le}
-use borrow.Author.Tests.{eq-eqb, ne_eqb}
+use Rattle.std.proofs.Common.{◌≡◌, ℕ, suc, ◌+◌, ◌-◌, ◌<◌, ◌≤◌, Bool, true, false, not, cond, ltb, List, [], ◌∷◌, length, take, drop, Some, None, refl, sym, ◌∙◌, arith, ltb-false, lt-ltb, le-ltb, length-drop, length-take-le}
+use Rattle.std.proofs.Math.Bool.{not-not}
+use Rattle.std.specs.List.{position, prefix_len}
+use Rattle.std.specs.Option.{unwrap_or}
+use Rattle.std.proofs.lemmas.List.Sums.{prefix_len-le-length}
 use Rattle.texts.specs.Texts.{front}
-use Rattle.texts.proofs.Fronts.{part_all, front-within}
-use Rattle.commands.specs.declared.fields.Kind.TheVariants.{Blank, Field}
-use Rattle.commands.specs.declared.fields.Span.{Span}
+use Rattle.std.proofs.lemmas.List.{take_rest}
+use Rattle.texts.proofs.Fronts.{front_is}
+use Rattle.std.specs.declared.ops.Range.{Range}
 use Rattle.commands.specs.Fields.{blank, belongs, trimmed, field_of, field_end, after_fields, is_empty, Spans}
 
+twice : (test : ℕ → Bool) (s : List ℕ) → prefix_len (λ b. not (not (test b))) s ≡ prefix_len test s
+twice test s = simp not-not
+
+-- How many bytes pass a test in front is where the first stands that does not.
+pub front_placed : (test : ℕ → Bool) (s : List ℕ) → unwrap_or (position (λ b. not (test b)) s) (length s) ≡ front test s
+front_placed test s = rw (twice test s, front_is test s) (go (ltb (prefix_len test s) (length s)) refl)
+  where
+    go : (before : Bool) → ltb (prefix_len test s) (length s) ≡ before
+        → unwrap_or (cond before (Some (prefix_len test s)) None) (length s) ≡ prefix_len test s
+    go true before = refl
+    go false past = omega (arith, ltb-false _ _ past, prefix_len-le-length test s)
+
+front-within : (test : ℕ → Bool) (s : List ℕ) → front test s ≤ length s
+front-within test s = rw (front_is test s) (prefix_len-le-length test s)
+
 -- The first field by its parts: where it starts and how long it is, which were counted.
-pub spans : (s : List ℕ) (start length' : ℕ) → start ≡ front (belongs Blank) s → start ≤ length s
-    → length' ≡ front (belongs Field) (take (length s - start) (drop start s)) → length' ≤ length (take (length s - start) (drop start s))
+pub spans : (s : List ℕ) (start length' : ℕ) → start ≡ front blank s → start ≤ length s
+    → length' ≡ front belongs (take (length s - start) (drop start s)) → length' ≤ length (take (length s - start) (drop start s))
     → Spans s (record { start = start; end = start + length' })
 unfolding field_of field_end
 spans s start length' blanks few letters few' =
-    let letters' : length' ≡ front (belongs Field) (drop start s) = rw part_all at letters in
+    let letters' : length' ≡ front belongs (drop start s) = rw take_rest at letters in
     let back : start + length' - start ≡ length' = omega arith in
     record {
       ends = rw (letters', blanks);
       order = omega arith;
-      inside = omega (arith, rw (part_all s start, length-drop start s) at few');
+      inside = omega (arith, rw (take_rest s start, length-drop start s) at few');
       text = rw (back, letters', blanks);
     }
 
--- A field is empty where it has no bytes.
-pub empty_yes : (s : List ℕ) → length s ≡ 0 → is_empty s ≡ true
-empty_yes [] none = refl
-empty_yes (b ∷ s) none = absurd (omega arith)
+-- One field further, and none.
+module _ (s : List ℕ) (i passed : ℕ) where
+  pub after_next : (end : ℕ) → passed < i → end ≡ field_end s
+      → after_fields s (i - passed) ≡ after_fields (take (length s - end) (drop end s)) (i - (passed + 1))
+  unfolding after_fields
+  after_next end more ends =
+      let left : i - passed ≡ suc (i - (passed + 1)) = omega arith in
+      rw (left, take_rest s end, ends)
 
-pub empty_no : (s : List ℕ) → (length s ≡ 0 → ⊥) → is_empty s ≡ false
-empty_no [] some = absurd (some refl)
-empty_no (b ∷ s) some = refl
+  pub after_none : i ≤ passed → after_fields s (i - passed) ≡ s
+  unfolding after_fields
+  after_none past = let none : i - passed ≡ 0 = omega arith in rw none
 
-pub empty_here : (s : List ℕ) {r : Span} → Spans s r → eqb r.start r.end ≡ is_empty (field_of s)
-empty_here s {r} at' = go (field_of s) at'.text at'.order at'.inside
+-- A field by its length.
+pub field_sized : (s : List ℕ) (start size : ℕ) → start ≡ front blank s → length (field_of s) ≡ size
+    → (take size (take (length s - start) (drop start s)) ≡ field_of s) × (size ≤ length (take (length s - start) (drop start s)))
+unfolding field_of
+field_sized s start size blanks is =
+    let few : front belongs (trimmed s) ≤ length (trimmed s) = front-within belongs (trimmed s) in
+    let letters : front belongs (trimmed s) ≡ size = sym (length-take-le _ _ few) ∙ is in
+    (rw (take_rest s start, blanks, ← letters), rw (take_rest s start, blanks, ← letters) few)
+
+-- There is no field where it is empty.
+pub field_empty : (s : List ℕ) {r : Range ℕ} → Spans s r → is_empty (field_of s) ≡ not (ltb r.start r.end)
+field_empty s {r} at' = go (field_of s) at'.text
   where
     size : length (take (r.end - r.start) (drop r.start s)) ≡ r.end - r.start
     size = length-take-le (r.end - r.start) (drop r.start s) (omega (arith, length-drop r.start s, at'.inside))
 
-    go : (t : List ℕ) → take (r.end - r.start) (drop r.start s) ≡ t → r.start ≤ r.end → r.end ≤ length s
-        → eqb r.start r.end ≡ is_empty t
-    go [] is order inside = eq-eqb r.start r.end (omega (arith, rw is at size))
-    go (b ∷ t) is order inside = ne_eqb r.start r.end (λ e. omega (arith, rw is at size))
-
-pub after_none : (s : List ℕ) (left : ℕ) → left ≤ 0 → s ≡ after_fields s left
-unfolding after_fields
-after_none s zero none = refl
-after_none s (suc left) none = absurd (omega arith)
-
-pub after_next : (s : List ℕ) (left end : ℕ) → 0 < left → end ≡ field_end s
-    → after_fields s left ≡ after_fields (take (length s - end) (drop end s)) (left - 1)
-unfolding after_fields
-after_next s zero end some e = absurd (omega arith)
-after_next s (suc left) end some e =
-    let less : suc left - 1 ≡ left = omega arith in
-    rw (part_all s end, e, less)
-
--- A byte above `#` belongs to a field, `#` to none; one below does where it is no blank.
-pub above_belongs : (b : ℕ) → 35 < b → belongs Field b ≡ true
-above_belongs b above =
-    rw (
-      ne_eqb b 35 (λ e. omega arith),
-      ne_eqb b 32 (λ e. omega arith),
-      ne_eqb b 9 (λ e. omega arith),
-      ne_eqb b 13 (λ e. omega arith),
-    )
-
-pub hash_ends : (b : ℕ) → b ≡ 35 → belongs Field b ≡ false
-hash_ends b is = rw (eq-eqb b 35 is)
-
-pub letter_or_blank : (b : ℕ) → (b ≡ 35 → ⊥) → belongs Field b ≡ not (blank b)
-letter_or_blank b other = rw (ne_eqb b 35 other)
-
--- A field by its length.
-pub field_sized : (s : List ℕ) (start size : ℕ) → start ≡ front (belongs Blank) s → length (field_of s) ≡ size
-    → (take size (take (length s - start) (drop start s)) ≡ field_of s) × (size ≤ length (take (length s - start) (drop start s)))
-unfolding field_of
-field_sized s start size blanks is =
-    let few : front (belongs Field) (trimmed s) ≤ length (trimmed s) = front-within (belongs Field) (trimmed s) in
-    let letters : front (belongs Field) (trimmed s) ≡ size = sym (length-take-le _ _ few) ∙ is in
-    (rw (part_all s start, blanks, ← letters), rw (part_all s start, blanks, ← letters) few)
+    go : (t : List ℕ) → take (r.end - r.start) (drop r.start s) ≡ t → is_empty t ≡ not (ltb r.start r.end)
+    go [] is = rw (le-ltb r.start r.end (omega (arith, rw is at size)))
+    go (b ∷ t) is = rw (lt-ltb r.start r.end (omega (arith, rw is at size)))

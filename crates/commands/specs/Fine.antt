@@ -4,7 +4,7 @@
 use Rattle.std.specs.Prelude.{◌≡◌, true, List, ℕ, ◌+◌, ◌*◌, ◌≤◌, length}
 use Rattle.texts.specs.Digits.{all_digits}
 use Rattle.commands.specs.declared.Command.{Command}
-use Rattle.commands.specs.declared.Command.TheVariants.{Nothing, Ranges, Fill, Strlen, CopyLog, MoveLog, FillLog, Put, Get, Clear, Bad}
+use Rattle.commands.specs.declared.Command.TheVariants.{Nothing, Ranges, Fill, Strlen, CopyLog, MoveLog, FillLog, Put, Get, Clear}
 use Rattle.commands.specs.Fields.{field_at}
 use Rattle.commands.specs.Sizes.{memory_bytes, most_room}
 
@@ -20,4 +20,3 @@ Fine most s (Put address count) =
     (address + count ≤ memory_bytes) × (length (field_at s 2) ≡ 2 * count) × (all_digits (field_at s 2) ≡ true)
 Fine most s (Get address count) = address + count ≤ memory_bytes
 Fine most s Clear = Unit {0}
-Fine most s (Bad why) = Unit {0}

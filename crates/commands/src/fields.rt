@@ -1,76 +1,39 @@
 // The fields of a line.
-ghost use Rattle.std.specs.Prelude.{◌≡◌, ◌≤◌, length};
+ghost use Rattle.std.specs.Prelude.{◌≡◌, ◌≤◌, ℕ, Bool, length};
 ghost use Rattle.texts.specs.Texts.{front};
-ghost use Rattle.commands.specs.Fields.{blank, belongs, after_fields, field_at, Spans};
+ghost use Rattle.commands.specs.Fields.{blank, belongs, AnswersAs, after_fields, field_at, Spans};
 
-// What a byte of a line may belong to.
-#[derive(Clone, Copy)]
-pub enum Kind {
-    Blank,
-    Field,
-}
-
-// Where a field stands.
-#[derive(Clone, Copy)]
-pub struct Span {
-    pub start: usize,
-    pub end: usize,
-}
+use std::ops::Range;
 
 // A space, a tab or a carriage return.
 fn is_blank(byte: u8) -> bool
     ensures { result ≡ blank byte }
 {
-    if byte == b' ' {
-        return true;
-    }
-    if byte == b'\t' {
-        return true;
-    }
-    byte == b'\r'
+    matches!(byte, b' ' | b'\t' | b'\r')
 }
 
-fn is_of(byte: u8, kind: Kind) -> bool
-    ensures { result ≡ belongs kind byte }
+// A byte of a field. Most are a digit or a letter, and those stand above `#`.
+fn belongs(byte: u8) -> bool
+    ensures { result ≡ belongs byte }
 {
-    match kind {
-        Kind::Blank => is_blank(byte),
-        Kind::Field => {
-            // Most bytes: a digit or a letter.
-            if byte > b'#' {
-                return true;
-            }
-            if byte == b'#' {
-                return false;
-            }
-            !is_blank(byte)
-        }
-    }
+    byte > b'#' || byte != b'#' && !is_blank(byte)
 }
 
-// How many bytes in front are of a kind.
-fn count_front(s: &[u8], kind: Kind) -> usize
-    ensures { (result ≡ front (belongs kind) s.now) × (result ≤ length s.now) }
+// How many bytes in front pass a test.
+fn count_front<F: Fn(u8) -> bool>(s: &[u8], test: F) -> usize
+    requires { F.IsAlwaysCallable test }
+    ensures value { (passes : ℕ → Bool) → AnswersAs (F.post test) passes → result ≡ front passes s.now }
+    ensures within { result ≤ length s.now }
 {
-    let mut i = 0;
-    while i < s.len() {
-        if is_of(s[i], kind) {
-            i += 1;
-        } else {
-            return i;
-        }
-    }
-    i
+    s.iter().position(|byte| !test(*byte)).unwrap_or(s.len())
 }
 
 // Where the first field stands: it is empty where there is none.
-pub fn first_field(s: &[u8]) -> Span
+pub fn first_field(s: &[u8]) -> Range<usize>
     ensures { Spans s.now result }
 {
-    let start = count_front(s, Kind::Blank);
-    let t = &s[start..];
-    let end = start + count_front(t, Kind::Field);
-    Span { start, end }
+    let start = count_front(s, is_blank);
+    start..start + count_front(&s[start..], belongs)
 }
 
 // What comes after the first i fields of a line.
@@ -78,11 +41,8 @@ fn after_fields(line: &[u8], i: usize) -> &[u8]
     ensures { result.now ≡ after_fields line.now i }
 {
     let mut s = line;
-    let mut left = i;
-    while left > 0 {
-        let end = first_field(s).end;
-        s = &s[end..];
-        left -= 1;
+    for _ in 0..i {
+        s = &s[first_field(s).end..];
     }
     s
 }
@@ -92,10 +52,7 @@ pub fn field_at(line: &[u8], i: usize) -> &[u8]
     ensures { result.now ≡ field_at line.now i }
 {
     let s = after_fields(line, i);
-    let found = first_field(s);
-    let start = found.start;
-    let end = found.end;
-    &s[start..end]
+    &s[first_field(s)]
 }
 
 // Field i of a line, whose length is known: it is not looked through again.
@@ -104,7 +61,6 @@ pub fn field_of(line: &[u8], i: usize, size: usize) -> &[u8]
     ensures { result.now ≡ field_at line.now i }
 {
     let s = after_fields(line, i);
-    let start = count_front(s, Kind::Blank);
-    let t = &s[start..];
+    let t = &s[count_front(s, is_blank)..];
     &t[..size]
 }

@@ -3,7 +3,7 @@
 
 mod fields;
 
-ghost use Rattle.std.specs.Prelude.{◌≡◌, ◌<◌, ◌≤◌, length};
+ghost use Rattle.std.specs.Prelude.{◌≡◌, ◌<◌, ◌≤◌, length, SomeIff};
 ghost use Rattle.texts.specs.Texts.{number_in};
 ghost use Rattle.commands.specs.Fields.{field_end};
 ghost use Rattle.commands.specs.Commands.{number_field, limited_field, value_field, hex_field, operand_of, read_from, within, inside, value_at, read_by, command_of};
@@ -12,7 +12,7 @@ ghost use Rattle.commands.specs.Tables.{word_table, listed, reported, row_at};
 
 use crate::fields::{field_at, first_field};
 pub use fields::field_of;
-use texts::{Number, Value, all_digits, number_in, number_of, text_at, value_of};
+use texts::{all_digits, number_in, number_of, text_at, value_of};
 
 // The most bytes of a line.
 pub const MOST_LINE: usize = 16383;
@@ -30,7 +30,7 @@ const MOST_FIELDS: usize = 5;
 const ROWS: usize = 12;
 
 // Why a line is bad.
-#[derive(Clone, Copy)]
+#[derive(Clone, Copy, Debug, PartialEq, Eq)]
 pub enum Why {
     TooLong,
     UnknownWord,
@@ -43,7 +43,7 @@ pub enum Why {
 }
 
 // The calls that take two ranges.
-#[derive(Clone, Copy)]
+#[derive(Clone, Copy, Debug, PartialEq, Eq)]
 pub enum Call {
     Copy,
     Move,
@@ -51,7 +51,7 @@ pub enum Call {
     Bcmp,
 }
 
-#[derive(Clone, Copy)]
+#[derive(Clone, Copy, Debug, PartialEq, Eq)]
 pub enum Command {
     // A line with no field.
     Nothing,
@@ -70,74 +70,56 @@ pub enum Command {
     // The address, and how many bytes.
     Get(usize, usize),
     Clear,
-    Bad(Why),
 }
 
-// What a field is found to be.
-#[derive(Clone, Copy)]
-pub enum Operand {
-    Is(usize),
-    Not(Why),
-}
-
-// What the fields of a command are found to be.
-#[derive(Clone, Copy)]
-pub enum Found {
-    Good,
-    Wrong(Why),
-}
-
-fn number_field(text: &[u8]) -> Operand
+#[tactic(auto, unfolding(crate::specs::Commands::number_field))]
+fn number_field(text: &[u8]) -> Result<usize, Why>
     ensures { result ≡ number_field text.now }
 {
-    match number_of(text) {
-        Number::Of(n) => Operand::Is(n),
-        Number::None => Operand::Not(Why::NoNumber),
-    }
+    number_of(text).ok_or(Why::NoNumber)
 }
 
 // A number of at most so many; there is a reason for more.
-fn limited_field(text: &[u8], most: usize, many: Why) -> Operand
+#[tactic(auto, using(std::proofs::lemmas::Bool::Decides::nat_tests), unfolding(crate::specs::Commands::limited_field))]
+fn limited_field(text: &[u8], most: usize, many: Why) -> Result<usize, Why>
     ensures { result ≡ limited_field many most text.now }
 {
-    match number_field(text) {
-        Operand::Is(n) => {
-            if n > most {
-                return Operand::Not(many);
-            }
-            Operand::Is(n)
-        }
-        Operand::Not(why) => Operand::Not(why),
+    let n = number_field(text)?;
+    if n > most {
+        return Err(many);
     }
+    Ok(n)
 }
 
-fn value_field(text: &[u8]) -> Operand
+// A value is taken from the line where it is used, and stands for no number here.
+#[tactic(auto, unfolding(crate::specs::Commands::value_field))]
+fn value_field(text: &[u8]) -> Result<usize, Why>
     ensures { result ≡ value_field text.now }
 {
-    match value_of(text) {
-        Value::Of(_) => Operand::Is(0),
-        Value::None => Operand::Not(Why::NoNumber),
-    }
+    value_of(text).map(|_| 0).ok_or(Why::NoNumber)
 }
 
-fn hex_field(text: &[u8]) -> Operand
+#[tactic(auto, using(std::proofs::lemmas::Bool::Decides::nat_tests), unfolding(crate::specs::Commands::hex_field))]
+fn hex_field(text: &[u8]) -> Result<usize, Why>
     ensures { result ≡ hex_field text.now }
 {
     if text.len() % 2 == 1 {
-        return Operand::Not(Why::OddDigits);
+        return Err(Why::OddDigits);
     }
-    if all_digits(text) {
-        return Operand::Is(text.len() / 2);
+    if !all_digits(text) {
+        return Err(Why::NoNumber);
     }
-    Operand::Not(Why::NoNumber)
+    Ok(text.len() / 2)
 }
 
 // A field by the letter of its kind.
-fn operand_of(text: &[u8], kind: u8, most: usize) -> Operand
+// Stays: a letter, as the definitions' `rows` write kinds: an enum of kinds would be made of these letters by one more match like this.
+#[tactic(auto, using(std::proofs::lemmas::Bool::Decides::nat_tests), unfolding(crate::specs::Commands::operand_of))]
+fn operand_of(text: &[u8], kind: u8, most: usize) -> Result<usize, Why>
     ensures { result ≡ operand_of most kind text.now }
 {
-    if text.len() == 0 {
-        return Operand::Not(Why::WrongFields);
+    if text.is_empty() {
+        return Err(Why::WrongFields);
     }
     match kind {
         b'k' => limited_field(text, most, Why::TooManyWords),
@@ -148,92 +130,80 @@ fn operand_of(text: &[u8], kind: u8, most: usize) -> Operand
     }
 }
 
-// Reads the fields of `s` by their kinds, from left to right, up to the first thing wrong. Their numbers go into `numbers`.
-fn read_fields(s: &[u8], kinds: &[u8], most: usize, numbers: &mut [usize; MOST_FIELDS]) -> Found
-    requires { (length kinds.now ≤ most_fields) × (length numbers.old ≡ most_fields) }
-    ensures { read_from most s.now 0 (listed numbers.old) kinds.now ≡ reported result numbers.new }
+// Reads the fields of `s` by their kinds, from left to right, up to the first thing wrong.
+#[tactic(auto, using(crate::proofs::Rows::reading_rules))]
+fn read_fields(s: &[u8], kinds: &[u8], most: usize) -> Result<[usize; MOST_FIELDS], Why>
+    requires { length kinds.now ≤ most_fields }
+    ensures { read_from most s.now 0 (λ i. 0) kinds.now ≡ reported result }
 {
+    let mut numbers = [0; MOST_FIELDS];
     let mut rest = s;
-    let mut i = 0;
-    while i < kinds.len() {
-        let found = first_field(rest);
-        let start = found.start;
-        let end = found.end;
-        match operand_of(&rest[start..end], kinds[i], most) {
-            Operand::Is(n) => numbers[i] = n,
-            Operand::Not(why) => return Found::Wrong(why),
-        }
-        rest = &rest[end..];
-        i += 1;
+    for (i, &kind) in kinds.iter().enumerate() {
+        let field = first_field(rest);
+        numbers[i] = operand_of(&rest[field.start..field.end], kind, most)?;
+        rest = &rest[field.end..];
     }
-    let further = first_field(rest);
-    if further.start == further.end {
-        return Found::Good;
+    if first_field(rest).is_empty() {
+        Ok(numbers)
+    } else {
+        Err(Why::WrongFields)
     }
-    Found::Wrong(Why::WrongFields)
 }
 
 // Whether bytes lie inside the memory. The count is held against what is left, so that nothing can wrap.
+#[tactic(auto, using(std::proofs::lemmas::Bool::Decides::nat_tests), unfolding(crate::specs::Commands::within))]
 fn is_inside(address: usize, count: usize) -> bool
     ensures { result ≡ within address count }
 {
-    if address > MEMORY_BYTES {
-        return false;
-    }
-    if count > MEMORY_BYTES - address {
-        return false;
-    }
-    true
+    address <= MEMORY_BYTES && count <= MEMORY_BYTES - address
 }
 
-fn inside_memory(address: usize, count: usize, command: Command) -> Command
+#[tactic(auto, unfolding(crate::specs::Commands::inside, crate::specs::Commands::choose))]
+fn inside_memory(address: usize, count: usize, command: Command) -> Result<Command, Why>
     ensures { result ≡ inside address count command }
 {
     if is_inside(address, count) {
-        return command;
+        Ok(command)
+    } else {
+        Err(Why::OutsideMemory)
     }
-    Command::Bad(Why::OutsideMemory)
 }
 
 // The value of field i; 0 where it is none.
+#[tactic(auto, unfolding(crate::specs::Commands::value_at))]
 fn value_at(line: &[u8], i: usize) -> i32
     ensures { result ≡ value_at line.now i }
 {
-    match value_of(field_at(line, i)) {
-        Value::Of(c) => c,
-        Value::None => 0,
-    }
+    value_of(field_at(line, i)).unwrap_or(0)
 }
 
 // What a row says of the numbers of its fields.
-fn say(line: &[u8], row: usize, numbers: &[usize; MOST_FIELDS]) -> Command
+// Stays: a row by its number, as `number_in` finds it: an enum of rows would be made of that number by one more match like this.
+fn say(line: &[u8], row: usize, numbers: [usize; MOST_FIELDS]) -> Result<Command, Why>
     requires { row < row_count }
-    ensures { result ≡ (row_at line.now row).says (listed numbers.now) }
+    ensures { result ≡ (row_at line.now row).says (listed numbers) }
 {
-    let a = numbers[0];
-    let b = numbers[1];
-    let c = numbers[2];
-    let d = numbers[3];
-    let e = numbers[4];
+    let [a, b, c, d, e] = numbers;
     match row {
-        0 => Command::Ranges(Call::Copy, a, b, c, d),
-        1 => Command::Ranges(Call::Move, a, b, c, d),
-        2 => Command::Fill(a, b, value_at(line, 3), d),
-        3 => Command::Ranges(Call::Compare, a, b, c, d),
-        4 => Command::Ranges(Call::Bcmp, a, b, c, d),
-        5 => Command::Strlen(a, b),
-        6 => Command::CopyLog(a, b, c, d, e),
-        7 => Command::MoveLog(a, b, c, d, e),
-        8 => Command::FillLog(a, b, value_at(line, 3), d, e),
+        0 => Ok(Command::Ranges(Call::Copy, a, b, c, d)),
+        1 => Ok(Command::Ranges(Call::Move, a, b, c, d)),
+        2 => Ok(Command::Fill(a, b, value_at(line, 3), d)),
+        3 => Ok(Command::Ranges(Call::Compare, a, b, c, d)),
+        4 => Ok(Command::Ranges(Call::Bcmp, a, b, c, d)),
+        5 => Ok(Command::Strlen(a, b)),
+        6 => Ok(Command::CopyLog(a, b, c, d, e)),
+        7 => Ok(Command::MoveLog(a, b, c, d, e)),
+        8 => Ok(Command::FillLog(a, b, value_at(line, 3), d, e)),
         9 => inside_memory(a, b, Command::Put(a, b)),
         10 => inside_memory(a, b, Command::Get(a, b)),
-        _ => Command::Clear,
+        _ => Ok(Command::Clear),
     }
 }
 
 // The commands' words, in the order of docs/TEXT-FORM.md. The kinds of their fields stand in `known`, in the same order.
-fn row_of(word: &[u8]) -> usize
-    ensures { result ≡ number_in row_count word_table word.now }
+// Stays: a text of words, and a row by its number: `word_table` and `number_in` say so, and `words_exchanged` is the first of these texts.
+fn row_of(word: &[u8]) -> Option<usize>
+    ensures { SomeIff result (number_in row_count word_table word.now < row_count) (number_in row_count word_table word.now) }
 {
     number_in(
         b"copy;move;fill;compare;bcmp;strlen;copy-log;move-log;fill-log;put;get;clear;",
@@ -243,7 +213,8 @@ fn row_of(word: &[u8]) -> usize
 }
 
 // What the line of a row says. Its word ends at `end`.
-fn known(line: &[u8], row: usize, end: usize, most: usize) -> Command
+// Stays: a text of kinds beside the text of words, as the definition `kind_table` says.
+fn known(line: &[u8], row: usize, end: usize, most: usize) -> Result<Command, Why>
     requires { (row < row_count) × (end ≡ field_end line.now) × (end ≤ length line.now) }
     ensures { result ≡ read_by most line.now (row_at line.now row) }
 {
@@ -251,29 +222,24 @@ fn known(line: &[u8], row: usize, end: usize, most: usize) -> Command
         b"knnn;knnn;knvn;knnn;knnn;kn;knnnr;knnnr;knvnr;nh;nn;;",
         row,
     );
-    let mut numbers = [0; MOST_FIELDS];
-    match read_fields(&line[end..], kinds, most, &mut numbers) {
-        Found::Good => say(line, row, &numbers),
-        Found::Wrong(why) => Command::Bad(why),
-    }
+    let numbers = read_fields(&line[end..], kinds, most)?;
+    say(line, row, numbers)
 }
 
 // What a line says. Of a line that is too long, any part that is too long will do. There are `most` words to lend.
-pub fn command_of(line: &[u8], most: usize) -> Command
+#[tactic(auto, using(crate::proofs::Tables::command_rules), unfolding(crate::specs::Commands::command_of, crate::specs::Commands::choose))]
+pub fn command_of(line: &[u8], most: usize) -> Result<Command, Why>
     ensures { result ≡ command_of most line.now }
 {
     if line.len() > MOST_LINE {
-        return Command::Bad(Why::TooLong);
+        return Err(Why::TooLong);
     }
     let word = first_field(line);
-    let start = word.start;
-    let end = word.end;
-    if start == end {
-        return Command::Nothing;
+    if word.is_empty() {
+        return Ok(Command::Nothing);
     }
-    let row = row_of(&line[start..end]);
-    if row == ROWS {
-        return Command::Bad(Why::UnknownWord);
-    }
-    known(line, row, end, most)
+    let Some(row) = row_of(&line[word.start..word.end]) else {
+        return Err(Why::UnknownWord);
+    };
+    known(line, row, word.end, most)
 }

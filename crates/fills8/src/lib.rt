@@ -1,4 +1,4 @@
-// `set_bytes` of impls.rs with what it is made of, as the routines of `forward8` are.
+// `set_bytes` of impls.rs with what it is made of, as the routines of `copies8` are.
 #![tactic(auto)]
 
 ghost use Rattle.std.specs.Prelude.{◌≡◌, ◌/◌, ◌%◌, length};
@@ -8,72 +8,29 @@ ghost use Rattle.model.specs.Perform.{filling};
 ghost use Rattle.runs.specs.Ran.{lent, Ran};
 ghost use Rattle.words8.specs.Word.{W};
 
-use model::{Work, join, zero};
+use model::{Log, Work, join, zero};
 use words8::access::store;
 use words8::bytes::broadcast;
 use words8::{WORD_COPY_THRESHOLD, WORD_SIZE, Word};
 
-fn set_bytes_bytes(
-    mem: &mut [Word],
-    log: &mut [u32],
-    place: &mut usize,
-    s: usize,
-    c: u8,
-    n: usize,
-) -> Work
-    requires { Range W (length mem.old) s n }
-    ensures { Ran W (filling c) (stores 1 s n)
-        (lent mem.old log.old place.old)
-        (lent mem.new log.new place.new) result }
-{
-    let end = s + n;
-    let mut s = s;
-    let mut work = zero();
-    while s < end {
-        let turn = store(mem, log, place, s, 1, c as Word);
-        work = join(work, turn);
-        s += 1;
-    }
-    work
-}
-
-fn set_bytes_words(
-    mem: &mut [Word],
-    log: &mut [u32],
-    place: &mut usize,
-    s: usize,
-    c: u8,
-    n: usize,
-) -> Work
-    requires { (Range W (length mem.old) s n) × ((s % W ≡ 0) × (n % W ≡ 0)) }
-    ensures { Ran W (filling c) (stores W s (n / W))
-        (lent mem.old log.old place.old)
-        (lent mem.new log.new place.new) result }
+// Stays: that a range lies inside the words is a clause (`Range`), and no type: the words are lent beside it.
+// Fills chunks of `SIZE` bytes: bytes at the edges (`set_bytes_bytes` of impls.rs), words between them (`set_bytes_words`).
+fn set_chunks<const SIZE: usize>(mem: &mut [Word], log: &mut Log, s: usize, c: u8, n: usize) -> Work
+    requires { (Range W (length mem.old) s n) × ((W % SIZE ≡ 0) × (s % SIZE ≡ 0)) }
+    ensures { Ran W (filling c) (stores SIZE s (n / SIZE)) (lent mem.old log.old) (lent mem.new log.new) result }
 {
     let word = broadcast(c);
-    let end = s + n;
-    let mut s = s;
     let mut work = zero();
-    while s < end {
-        let turn = store(mem, log, place, s, WORD_SIZE, word);
+    for i in 0..n / SIZE {
+        let turn = store(mem, log, s + SIZE * i, SIZE, word);
         work = join(work, turn);
-        s += WORD_SIZE;
     }
     work
 }
 
-pub fn set_bytes(
-    mem: &mut [Word],
-    log: &mut [u32],
-    place: &mut usize,
-    s: usize,
-    c: u8,
-    n: usize,
-) -> Work
+pub fn set_bytes(mem: &mut [Word], log: &mut Log, s: usize, c: u8, n: usize) -> Work
     requires { Range W (length mem.old) s n }
-    ensures { Ran W (filling c) (fill_list W s n)
-        (lent mem.old log.old place.old)
-        (lent mem.new log.new place.new) result }
+    ensures { Ran W (filling c) (fill_list W s n) (lent mem.old log.old) (lent mem.new log.new) result }
 {
     let mut s = s;
     let mut n = n;
@@ -82,16 +39,16 @@ pub fn set_bytes(
         // Align s
         // Because of n >= 2 * WORD_SIZE, misalignment < n
         let misalignment = (WORD_SIZE - s % WORD_SIZE) % WORD_SIZE;
-        let head = set_bytes_bytes(mem, log, place, s, c, misalignment);
+        let head = set_chunks::<1>(mem, log, s, c, misalignment);
         s += misalignment;
         n -= misalignment;
 
         let n_words = n - n % WORD_SIZE;
-        let words = set_bytes_words(mem, log, place, s, c, n_words);
+        let words = set_chunks::<WORD_SIZE>(mem, log, s, c, n_words);
         work = join(head, words);
         s += n_words;
         n -= n_words;
     }
-    let tail = set_bytes_bytes(mem, log, place, s, c, n);
+    let tail = set_chunks::<1>(mem, log, s, c, n);
     join(work, tail)
 }

@@ -1,13 +1,12 @@
--- Laws of `put`, `get` and `clear`, as loops use them: one byte, or one word, more.
+-- Laws of `put` and `get`, as loops use them: one byte, or one word, more.
 -- Assumes nothing.
 use mathlib.Core.Path.{◌≡◌, refl, sym, ◌∙◌, ap, fun_ext}
-use mathlib.Core.List.{List, ◌∷◌, ◌++◌, append-nil}
+use mathlib.Core.List.{List}
 use Prim.Native.Nat.{ℕ, zero, suc, ◌+◌, ◌*◌, ◌-◌, ◌^◌, ◌/◌, ◌<◌, ◌≤◌}
 use native.Mathlib.Nat.{pow-le-pow_right}
 use native.Mathlib.Numerals.{add-one}
 use native.Mathlib.Omega.{arith}
-use lib.ListN.{length, get_or, set, drop, replicate, length-append, length-set, length-replicate, replicate-append-replicate}
-use lib.Seq.{drop-cons, set_at, append_snoc, drop-length}
+use lib.ListN.{length, get_or, length-append}
 use borrow.Author.Tests.{eq-eqb, ne_eqb}
 use Rattle.model.specs.Memory.{byte, view, over, laid, read_le}
 use Rattle.model.proofs.ByteLaws.{byte_lt, read_le_lt, read_le-byte, read_le_one, read_le-append}
@@ -16,13 +15,14 @@ use Rattle.texts.specs.Digits.{digit_of}
 use Rattle.words8.specs.Word.{W}
 use Rattle.model.proofs.MemoryLaws.{over_in, over_below, over_above, over_cong, Place, below, inside, above, place}
 use Rattle.show.specs.Numbers.{hex_byte}
+use Rattle.show.specs.declared.Out.{Out}
 use Rattle.show.specs.Written.{Wrote}
 use Rattle.show.proofs.Writing.{wrote_none, wrote_then}
 use Rattle.lines.specs.Lines.{get_text}
 use Rattle.lines.specs.Bytes.{hex_text, hex_number, hex_at, Laid, Put, PutNext}
 
 -- Two digits for each byte.
-pub hex_length : (f : ℕ → ℕ) (a n : ℕ) → length (hex_text f a n) ≡ 2 * n
+hex_length : (f : ℕ → ℕ) (a n : ℕ) → length (hex_text f a n) ≡ 2 * n
 unfolding hex_text
 hex_length f a zero = refl
 hex_length f a (suc n) = simp length-append (omega (arith, hex_length f a n))
@@ -30,12 +30,12 @@ hex_length f a (suc n) = simp length-append (omega (arith, hex_length f a n))
 pub hex_few : (f : ℕ → ℕ) (a n : ℕ) → length (hex_text f a n) ≤ 2 * n
 hex_few f a n = omega (arith, hex_length f a n)
 
-pub unwritten : (f : ℕ → ℕ) (a at : ℕ) (old : List ℕ) → at ≤ length old → Wrote (hex_text f a 0) at old old at
+pub unwritten : (f : ℕ → ℕ) (a : ℕ) (o : Out) → o.end ≤ length o.bytes.now → Wrote (hex_text f a 0) o o
 unfolding hex_text
-unwritten f a at old l = wrote_none at old l
+unwritten f a o l = wrote_none o l
 
-pub hex_more : (f : ℕ → ℕ) (a n b : ℕ) {old mid new : List ℕ} {at past end : ℕ} → Wrote (hex_text f a n) at old mid past → b ≡ f (a + n)
-    → Wrote (hex_byte b) past mid new end → Wrote (hex_text f a (n + 1)) at old new end
+pub hex_more : (f : ℕ → ℕ) (a n b : ℕ) {old mid new : Out} → Wrote (hex_text f a n) old mid → b ≡ f (a + n) → Wrote (hex_byte b) mid new
+    → Wrote (hex_text f a (n + 1)) old new
 unfolding hex_text
 hex_more f a n b w is v = rw (add-one n, ← is) (wrote_then w v)
 
@@ -43,15 +43,15 @@ hex_more f a n b w is v = rw (add-one n, ← is) (wrote_then w v)
 abbrev bytes_word : List ℕ
 bytes_word = codes "bytes"
 
-module _ (f : ℕ → ℕ) (a n : ℕ) {at m end : ℕ} {old mid new : List ℕ} (word : Wrote bytes_word at old mid m) where
-  pub got_none : n ≡ 0 → Wrote (codes "\n") m mid new end → Wrote (get_text f a n) at old new end
+module _ (f : ℕ → ℕ) (a n : ℕ) {old word new : Out} (w : Wrote bytes_word old word) where
+  pub got_none : n ≡ 0 → Wrote (codes "\n") word new → Wrote (get_text f a n) old new
   unfolding get_text
-  got_none none w = rw (eq-eqb n 0 none) (wrote_then word w)
+  got_none none v = rw (eq-eqb n 0 none) (wrote_then w v)
 
-  pub got_some : {m' m'' : ℕ} {mid' mid'' : List ℕ} → (n ≡ 0 → ⊥) → Wrote (codes " ") m mid mid' m' → Wrote (hex_text f a n) m' mid' mid'' m''
-      → Wrote (codes "\n") m'' mid'' new end → Wrote (get_text f a n) at old new end
+  pub got_some : {space bytes : Out} → 0 < n → Wrote (codes " ") word space → Wrote (hex_text f a n) space bytes
+      → Wrote (codes "\n") bytes new → Wrote (get_text f a n) old new
   unfolding get_text
-  got_some some space w v = rw (ne_eqb n 0 some) (wrote_then word (wrote_then (wrote_then space w) v))
+  got_some some s b v = rw (ne_eqb n 0 (λ none. omega arith)) (wrote_then w (wrote_then (wrote_then s b) v))
 
 -- No byte is put yet.
 pub put_none : (W : ℕ) (hex : List ℕ) (a : ℕ) (ws : List ℕ) → Put W hex a 0 ws ws
@@ -153,39 +153,3 @@ module _ {hex : List ℕ} {i left word : ℕ} (w : WordFrom hex i left word) whe
       let start : i + left ≡ i = omega arith in
       let whole : W - left ≡ W = omega arith in
       rw (start, whole) at w.is
-
--- So many words that are zero.
-abbrev zeros : ℕ → List ℕ
-zeros n = replicate n 0
-
--- The first i words are zero, and the others as they were.
-pub record Cleared (ws : List ℕ) (i : ℕ) (ws' : List ℕ) : Type 0 where
-  pub few : i ≤ length ws
-  pub size : length ws' ≡ length ws
-  pub words : ws' ≡ replicate i 0 ++ drop i ws
-
-pub cleared_none : (ws : List ℕ) → Cleared ws 0 ws
-cleared_none ws = record { few = omega arith; size = refl; words = refl }
-
-cleared_next : (ws : List ℕ) (i : ℕ) → i < length ws → set (zeros i ++ drop i ws) i 0 ≡ zeros (i + 1) ++ drop (i + 1) ws
-cleared_next ws i l =
-    rw (drop-cons ws i 0 l, add-one i)
-    (set_at (zeros i) (get_or ws i 0) (drop (suc i) ws) 0 i (length-replicate i 0) ∙ moved)
-  where
-    snoc : zeros i ++ zeros 1 ≡ zeros (suc i)
-    snoc = replicate-append-replicate i 1 0 ∙ ap zeros (add-one i)
-
-    moved : zeros i ++ 0 ∷ drop (suc i) ws ≡ zeros (suc i) ++ drop (suc i) ws
-    moved = sym (append_snoc (zeros i) 0 (drop (suc i) ws)) ∙ ap (λ (l : List ℕ). l ++ drop (suc i) ws) snoc
-
-pub cleared_more : (ws : List ℕ) (i : ℕ) {ws' : List ℕ} → Cleared ws i ws' → i < length ws → Cleared ws (i + 1) (set ws' i 0)
-cleared_more ws i {ws'} p l = record {
-  few = omega arith;
-  size = length-set ws' i 0 ∙ p.size;
-  words = rw p.words (cleared_next ws i l);
-}
-
-pub cleared_all : (ws : List ℕ) (i : ℕ) {ws' : List ℕ} → Cleared ws i ws' → length ws ≤ i → ws' ≡ replicate (length ws) 0
-cleared_all ws i p l =
-    let e : i ≡ length ws = omega (arith, p.few) in
-    p.words ∙ rw (e, drop-length ws) (append-nil (zeros (length ws)))

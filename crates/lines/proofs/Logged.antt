@@ -1,5 +1,5 @@
--- A logged call on the first k words: its answer is written with as many numbers as the log has places for (`log_room`), and the line shows
--- the number of each access of the list, or none where the call is refused (`log_moved`). By what the checks find (`ruled`).
+-- A logged call: its answer is written with as many numbers as the log has places for (`log_room`), and the line shows the number of each
+-- access of the list, or none where the call is refused (`log_told`). By what the checks find (`ruled`).
 -- Assumes nothing.
 use mathlib.Core.Path.{◌≡◌, refl, sym, ap, ◌∙◌}
 use mathlib.Core.List.{List, [], ◌++◌, map}
@@ -15,6 +15,7 @@ use Rattle.model.specs.Log.{entry_of, log_after}
 use Rattle.model.specs.Promises.{LogPromised}
 use Rattle.model.specs.Refusals.{Line, Ruling, none, given, checked, ruled, log_table}
 use Rattle.model.proofs.RefusalLaws.{checked_none, checked-given, log_accepted}
+use Rattle.show.specs.declared.Out.{Out}
 use Rattle.show.specs.LoggedText.{written, logged_text}
 use Rattle.show.specs.Written.{Wrote}
 use Rattle.show.proofs.Counted.{written-within, written_all}
@@ -42,10 +43,11 @@ module _ {lines : List Line} {dest : ℕ} {xs : List Access} {words ws es : List
           rw (checked-given (log_table lines xs (length es)) refused (accepted (an_address dest) xs) e)
           (omega (arith, written-within (a_refusal i) []))
 
-  same_text : LogPromised lines dest xs words ws es r ws' es' → Every (aligns W) xs
-      → logged_text (answered r) es' ≡ log_text lines dest xs (length es)
+  -- The answer is written as the line's.
+  pub log_told : {old new : Out} → LogPromised lines dest xs words ws es r ws' es' → Every (aligns W) xs → Wrote (logged_text (answered r) es') old new
+      → Wrote (log_text lines dest xs (length es)) old new
   unfolding log_text log_after
-  same_text p aligned = rw (p.answer, p.log) (go (ruled (log_table lines xs (length es))) refl)
+  log_told p aligned w = wrote_as (rw (p.answer, p.log) (go (ruled (log_table lines xs (length es))) refl)) w
     where
       table : List Line
       table = log_table lines xs (length es)
@@ -59,13 +61,3 @@ module _ {lines : List Line} {dest : ℕ} {xs : List Access} {words ws es : List
       go (given i) e =
           rw (checked-given table refused (accepted (an_address dest) xs) e, checked-given table (λ i. es) (log_after xs es) e, checked-given table (λ i. log_line (a_refusal i) []) (log_line (an_address dest) xs) e)
           (shown (a_refusal i) [] es empty)
-
-  -- The answer is written as the line's, and the other words are as they were.
-  pub log_moved : {lines' : List Line} {room at end : ℕ} {old new : List ℕ} (rest : List ℕ)
-      → LogPromised lines dest xs words ws es r ws' es' → Every (aligns W) xs → lines ≡ lines' → length es ≡ room
-      → Wrote (logged_text (answered r) es') at old new end
-      → (ws' ++ rest ≡ checked (log_table lines xs room) (λ i. ws) words ++ rest) × (Wrote (log_text lines' dest xs room) at old new end)
-  log_moved rest p aligned same size w = (
-    ap (λ (l : List ℕ). l ++ rest) (p.memory ∙ ap (λ (m : ℕ). checked (log_table lines xs m) (λ i. ws) words) size),
-    wrote_as (same_text p aligned ∙ ap (λ (ls : List Line). log_text ls dest xs (length es)) same ∙ ap (log_text _ dest xs) size) w,
-  )

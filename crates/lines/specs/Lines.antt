@@ -1,6 +1,6 @@
 -- What a line does to the memory, and what it is answered: docs/TEXT-FORM.md, "Commands and answers" and "Bad lines".
 -- Assumes nothing.
-use Rattle.std.specs.Prelude.{◌≡◌, cond, List, [], ◌++◌, map, ℕ, eqb, ℤ, length, take, drop, replicate}
+use Rattle.std.specs.Prelude.{◌≡◌, cond, List, [], ◌++◌, map, ℕ, eqb, ℤ, length, take, drop, replicate, Result, Ok, Err}
 use Rattle.model.specs.Access.{Access}
 use Rattle.model.specs.Answers.{Said, an_address, a_refusal, Reply, accepted, copy_answer, move_answer, fill_answer, compare_answer, bcmp_answer, string_answer, copy_words, move_words, fill_words}
 use Rattle.model.specs.Lists.{copy_list, move_list, fill_list}
@@ -8,6 +8,7 @@ use Rattle.model.specs.Log.{entry_of}
 use Rattle.model.specs.Meaning.{memcpy, memmove, memset}
 use Rattle.model.specs.Memory.{view, packed}
 use Rattle.model.specs.Refusals.{Line, checked, copy_table, ranges_table, fill_table, log_table}
+use Rattle.show.specs.declared.Out.{Out}
 use Rattle.show.specs.AnswerText.{reply_text, answer_text}
 use Rattle.show.specs.LoggedText.{list_text}
 use Rattle.show.specs.Numbers.{decimal}
@@ -19,7 +20,7 @@ use Rattle.commands.specs.Fields.{field_at}
 use Rattle.commands.specs.declared.Call.{Call}
 use Rattle.commands.specs.declared.Call.TheVariants.{Copy, Move, Compare, Bcmp}
 use Rattle.commands.specs.declared.Command.{Command}
-use Rattle.commands.specs.declared.Command.TheVariants.{Nothing, Ranges, Fill, Strlen, CopyLog, MoveLog, FillLog, Put as PutCommand, Get, Clear, Bad}
+use Rattle.commands.specs.declared.Command.TheVariants.{Nothing, Ranges, Fill, Strlen, CopyLog, MoveLog, FillLog, Put as PutCommand, Get, Clear}
 use Rattle.commands.specs.declared.Why.{Why}
 use Rattle.commands.specs.declared.Why.TheVariants.{TooLong, UnknownWord, WrongFields, NoNumber, TooManyWords, TooMuchRoom, OddDigits, OutsideMemory}
 use Rattle.lines.specs.Bytes.{hex_text, Put}
@@ -109,36 +110,35 @@ why_text why = text_at reasons (reason_number why)
 unfoldable pub error_text : ℕ → Why → List ℕ
 error_text number why = codes "error " ++ (decimal number ++ (codes " " ++ (why_text why ++ codes "\n")))
 
--- The answer to line `number`.
-unfoldable pub answer_of : List ℕ → ℕ → List ℕ → Command → List ℕ
-answer_of ws number line Nothing = []
-answer_of ws number line (Ranges call k first second n) = answer_text (ranges_answer call ws k first second n)
-answer_of ws number line (Fill k dest c n) = answer_text (fill_answer W k dest n)
-answer_of ws number line (Strlen k start) = answer_text (string_answer W (take k ws) start)
-answer_of ws number line (CopyLog k dest src n room) = copy_log_text k dest src n room
-answer_of ws number line (MoveLog k dest src n room) = move_log_text k dest src n room
-answer_of ws number line (FillLog k dest c n room) = fill_log_text k dest n room
-answer_of ws number line (PutCommand address count) = put_text count
-answer_of ws number line (Get address count) = get_text (view W ws) address count
-answer_of ws number line Clear = clear_text
-answer_of ws number line (Bad why) = error_text number why
+-- The answer to line `number`, by what the line says. Only that of a bad line shows its number.
+unfoldable pub answer_of : List ℕ → ℕ → List ℕ → Result Command Why → List ℕ
+answer_of ws number line (Ok Nothing) = []
+answer_of ws number line (Ok (Ranges call k first second n)) = answer_text (ranges_answer call ws k first second n)
+answer_of ws number line (Ok (Fill k dest c n)) = answer_text (fill_answer W k dest n)
+answer_of ws number line (Ok (Strlen k start)) = answer_text (string_answer W (take k ws) start)
+answer_of ws number line (Ok (CopyLog k dest src n room)) = copy_log_text k dest src n room
+answer_of ws number line (Ok (MoveLog k dest src n room)) = move_log_text k dest src n room
+answer_of ws number line (Ok (FillLog k dest c n room)) = fill_log_text k dest n room
+answer_of ws number line (Ok (PutCommand address count)) = put_text count
+answer_of ws number line (Ok (Get address count)) = get_text (view W ws) address count
+answer_of ws number line (Ok Clear) = clear_text
+answer_of ws number line (Err why) = error_text number why
 
 -- The words afterwards. A bad line changes nothing.
-unfoldable pub LeftBy : List ℕ → List ℕ → Command → List ℕ → Type 0
-LeftBy ws line Nothing ws' = ws' ≡ ws
-LeftBy ws line (Ranges call k first second n) ws' = ws' ≡ ranges_words call ws k first second n
-LeftBy ws line (Fill k dest c n) ws' = ws' ≡ on_first k (λ lent. fill_words W lent dest c n) ws
-LeftBy ws line (Strlen k start) ws' = ws' ≡ ws
-LeftBy ws line (CopyLog k dest src n room) ws' = ws' ≡ on_first k (copy_log_words dest src n room) ws
-LeftBy ws line (MoveLog k dest src n room) ws' = ws' ≡ on_first k (move_log_words dest src n room) ws
-LeftBy ws line (FillLog k dest c n room) ws' = ws' ≡ on_first k (fill_log_words dest c n room) ws
-LeftBy ws line (PutCommand address count) ws' = Put W (field_at line 2) address count ws ws'
-LeftBy ws line (Get address count) ws' = ws' ≡ ws
-LeftBy ws line Clear ws' = ws' ≡ replicate (length ws) 0
-LeftBy ws line (Bad why) ws' = ws' ≡ ws
+unfoldable pub LeftBy : List ℕ → List ℕ → Result Command Why → List ℕ → Type 0
+LeftBy ws line (Ok Nothing) ws' = ws' ≡ ws
+LeftBy ws line (Ok (Ranges call k first second n)) ws' = ws' ≡ ranges_words call ws k first second n
+LeftBy ws line (Ok (Fill k dest c n)) ws' = ws' ≡ on_first k (λ lent. fill_words W lent dest c n) ws
+LeftBy ws line (Ok (Strlen k start)) ws' = ws' ≡ ws
+LeftBy ws line (Ok (CopyLog k dest src n room)) ws' = ws' ≡ on_first k (copy_log_words dest src n room) ws
+LeftBy ws line (Ok (MoveLog k dest src n room)) ws' = ws' ≡ on_first k (move_log_words dest src n room) ws
+LeftBy ws line (Ok (FillLog k dest c n room)) ws' = ws' ≡ on_first k (fill_log_words dest c n room) ws
+LeftBy ws line (Ok (PutCommand address count)) ws' = Put W (field_at line 2) address count ws ws'
+LeftBy ws line (Ok (Get address count)) ws' = ws' ≡ ws
+LeftBy ws line (Ok Clear) ws' = ws' ≡ replicate (length ws) 0
+LeftBy ws line (Err why) ws' = ws' ≡ ws
 
--- Line `number` is answered: the words are as the line leaves them, and the answer stands in the buffer from `at` on.
-pub record Answered (ws : List ℕ) (number : ℕ) (line : List ℕ) (command : Command) (ws' : List ℕ) (at : ℕ) (old new : List ℕ) (end : ℕ)
-    : Type 0 where
-  pub memory : LeftBy ws line command ws'
-  pub text : Wrote (answer_of ws number line command) at old new end
+-- Line `number` is answered: the words are as the line leaves them, and the answer stands in the buffer, behind what was there.
+pub record Answered (ws : List ℕ) (number : ℕ) (line : List ℕ) (said : Result Command Why) (ws' : List ℕ) (old new : Out) : Type 0 where
+  pub memory : LeftBy ws line said ws'
+  pub text : Wrote (answer_of ws number line said) old new

@@ -7,7 +7,8 @@ ghost use Rattle.texts.specs.Digits.{digit_of, all_digits};
 ghost use Rattle.words8.specs.Word.{W};
 ghost use Rattle.lines.specs.Bytes.{hex_text, hex_number, hex_at, Laid, Put, PutNext};
 
-use show::write_byte;
+use model::Log;
+use show::Out;
 use texts::digit_value;
 use words8::access::{load, store};
 use words8::{WORD_SIZE, Word};
@@ -17,23 +18,18 @@ fn byte_at(mem: &[Word], at: usize) -> u8
     requires { Fit W (length mem.now) 1 at }
     ensures { result ≡ view W mem.now at }
 {
-    let mut log = [0u32; 0];
-    let mut place: usize = 0;
-    load(mem, &mut log, &mut place, at, 1).value as u8
+    let mut log = Log::new(&mut []);
+    load(mem, &mut log, at, 1).value as u8
 }
 
 // The bytes from an address on, as hexadecimal digits.
-pub fn write_bytes(mem: &[Word], address: usize, count: usize, out: &mut [u8], at: usize) -> usize
-    requires { (Range W (length mem.now) address count) × (Room (2 * count) at out.old) }
-    ensures { Wrote (hex_text (view W mem.now) address count) at out.old out.new result }
+pub fn write_bytes(mem: &[Word], address: usize, count: usize, out: &mut Out)
+    requires { (Range W (length mem.now) address count) × (Room (2 * count) out.old) }
+    ensures { Wrote (hex_text (view W mem.now) address count) out.old out.new }
 {
-    let mut past = at;
-    let mut i = 0;
-    while i < count {
-        past = write_byte(out, past, byte_at(mem, address + i));
-        i += 1;
+    for i in 0..count {
+        out.write_byte(byte_at(mem, address + i));
     }
-    past
 }
 
 // Two hexadecimal digits, as a number.
@@ -50,9 +46,7 @@ fn next_word(hex: &[u8], i: usize) -> Word
     ensures { result ≡ read_le (hex_at hex.now) i W }
 {
     let mut word: Word = 0;
-    let mut left = WORD_SIZE;
-    while left > 0 {
-        left -= 1;
+    for left in (0..WORD_SIZE).rev() {
         let at = 2 * (i + left);
         word = word * 256 + two_digits(hex[at], hex[at + 1]);
     }
@@ -64,9 +58,8 @@ fn set(mem: &mut [Word], at: usize, width: usize, value: Word)
     requires { Fit W (length mem.old) width at }
     ensures { Laid W width at value mem.old mem.new }
 {
-    let mut log = [0u32; 0];
-    let mut place: usize = 0;
-    store(mem, &mut log, &mut place, at, width, value);
+    let mut log = Log::new(&mut []);
+    store(mem, &mut log, at, width, value);
 }
 
 // Puts what comes next of a text, from byte i on: a whole word where it can be one, else a byte. Hands back how much of it is put then.
@@ -75,11 +68,9 @@ fn put_next(mem: &mut [Word], address: usize, hex: &[u8], i: usize) -> usize
     ensures { PutNext W hex.now address i mem.old mem.new result }
 {
     let at = address + i;
-    if at % WORD_SIZE == 0 {
-        if i + WORD_SIZE <= hex.len() / 2 {
-            set(mem, at, WORD_SIZE, next_word(hex, i));
-            return i + WORD_SIZE;
-        }
+    if at % WORD_SIZE == 0 && i + WORD_SIZE <= hex.len() / 2 {
+        set(mem, at, WORD_SIZE, next_word(hex, i));
+        return i + WORD_SIZE;
     }
     set(mem, at, 1, two_digits(hex[2 * i], hex[2 * i + 1]));
     i + 1
@@ -90,6 +81,7 @@ pub fn put_bytes(mem: &mut [Word], address: usize, hex: &[u8])
     requires { (Range W (length mem.old) address (length hex.now / 2)) × (all_digits hex.now ≡ true) }
     ensures { Put W hex.now address (length hex.now / 2) mem.old mem.new }
 {
+    // Stays: a turn puts 8 bytes or 1 and goes on by as many, which no range does.
     let mut i = 0;
     while i < hex.len() / 2 {
         i = put_next(mem, address, hex, i);
@@ -99,9 +91,5 @@ pub fn put_bytes(mem: &mut [Word], address: usize, hex: &[u8])
 pub fn clear(mem: &mut [Word])
     ensures { mem.new ≡ replicate (length mem.old) 0 }
 {
-    let mut i = 0;
-    while i < mem.len() {
-        mem[i] = 0;
-        i += 1;
-    }
+    mem.fill(0);
 }

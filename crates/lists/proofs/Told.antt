@@ -7,10 +7,11 @@ use Prim.Native.Nat.{ℕ, ◌^◌, ◌<◌, ◌≤◌}
 use native.Mathlib.Nat.{suc_inj, suc-ne-zero}
 use native.Mathlib.Omega.{arith}
 use lib.ListN.{length, get_or, drop}
+use Rattle.model.specs.declared.Log.{Log}
 use Rattle.model.specs.declared.Work.{Work}
 use Rattle.model.specs.Access.{Access, load, store}
 use Rattle.model.specs.Fit.{Fit, fits, Every, next}
-use Rattle.model.specs.Log.{width_code, per_code, entry_of, log_after, Log, log_of, Recorded}
+use Rattle.model.specs.Log.{width_code, per_code, entry_of, log_after, Recorded}
 use Rattle.model.proofs.LogLaws.{log_written, log_place}
 use Rattle.model.proofs.Widths.{code_power}
 use Rattle.model.proofs.WordLaws.{eight_bytes, address_fits}
@@ -59,10 +60,9 @@ same_list core k (x ∷ xs) [] r s p q l e = absurd (suc-ne-zero (length xs) l)
 same_list core k (x ∷ xs) (y ∷ ys) r s (next f p) (next g q) l e =
     ap₂ ◌∷◌ (one_entry core k x y f g (ap (λ (ns : List ℕ). get_or ns 0 0) e)) (same_list core k xs ys r s p q (suc_inj l) (ap (drop 1) e))
 
-pub log_tells : {W : ℕ} {xs ys : List Access} {es : List ℕ} {g : Log} {a b : Work} → Core W → (k : ℕ) → Every (fits W k) xs
-    → Every (fits W k) ys → length xs ≤ length es → length ys ≤ length es → Recorded xs (log_of es 0) g a
-    → Recorded ys (log_of es 0) g b → xs ≡ ys
+pub log_tells : {W : ℕ} {xs ys : List Access} {h g : Log} {a b : Work} → Core W → (k : ℕ) → Every (fits W k) xs → Every (fits W k) ys
+    → h.place ≡ 0 → length xs ≤ length h.entries.now → length ys ≤ length h.entries.now → Recorded xs h g a → Recorded ys h g b → xs ≡ ys
 unfolding log_after
-log_tells {xs = xs} {ys} {es} core k p q l m u v =
-    same_list core k xs ys (drop (length xs) es) (drop (length ys) es) p q (sym (log_place u l) ∙ log_place v m)
-    (sym (log_written u l) ∙ log_written v m)
+log_tells {xs = xs} {ys} {h} core k p q e l m u v =
+    same_list core k xs ys (drop (length xs) h.entries.now) (drop (length ys) h.entries.now) p q (sym (log_place u e l) ∙ log_place v e m)
+    (sym (log_written u e l) ∙ log_written v e m)

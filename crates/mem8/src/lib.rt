@@ -15,57 +15,50 @@ ghost use Rattle.runs.specs.Ran.{lent, Ran};
 ghost use Rattle.words8.specs.Word.{W};
 ghost use Rattle.mem8.specs.Scanned.{scan_said};
 
-use backward8::copy_backward;
 use checks8::lengths::forward;
 use checks8::{check_copy, check_range, check_ranges};
+use copies8::copy;
 use fills8::set_bytes;
-use forward8::copy_forward;
-use model::{Answer, Outcome, Refusal, Verdict, Work};
-use scans8::{Scan, c_string_length, compare_bytes};
-use words8::Word;
+use model::{Answer, Log, Outcome, Refusal, Work};
+use scans8::{c_string_length, compare_bytes};
+use words8::{BACKWARD, FORWARD, Word};
 
+// Stays: each call of mod.rs is a function of its own, under its name: its checks, its routine and its promise set it apart.
 pub fn memcpy(mem: &mut [Word], dest: usize, src: usize, n: usize) -> Answer
     ensures { CopyPromise W mem.old dest src n result mem.new }
 {
-    if let Verdict::Refuse(why) = check_copy(mem.len(), dest, src, n) {
+    if let Err(why) = check_copy(mem.len(), dest, src, n) {
         return Answer::refused(why);
     }
-    let mut log = [0u32; 0];
-    let mut place: usize = 0;
-    let work = copy_forward(mem, &mut log, &mut place, dest, src, n);
+
+    let mut log = Log::new(&mut []);
+    let work = copy::<FORWARD>(mem, &mut log, dest, src, n);
     Answer::new(Outcome::Address(dest), work)
 }
 
-fn move_bytes(
-    mem: &mut [Word],
-    log: &mut [u32],
-    place: &mut usize,
-    dest: usize,
-    src: usize,
-    n: usize,
-) -> Work
+fn move_bytes(mem: &mut [Word], log: &mut Log, dest: usize, src: usize, n: usize) -> Work
     requires { (Range W (length mem.old) dest n) × (Range W (length mem.old) src n) }
     ensures { Ran W (moving dest src) (move_list W dest src n)
-        (lent mem.old log.old place.old)
-        (lent mem.new log.new place.new) result }
+        (lent mem.old log.old)
+        (lent mem.new log.new) result }
 {
     if forward(dest, src, n) {
         // We can copy forwards because either dest is far enough ahead of src, or src is ahead of dest.
-        copy_forward(mem, log, place, dest, src, n)
+        copy::<FORWARD>(mem, log, dest, src, n)
     } else {
-        copy_backward(mem, log, place, dest, src, n)
+        copy::<BACKWARD>(mem, log, dest, src, n)
     }
 }
 
 pub fn memmove(mem: &mut [Word], dest: usize, src: usize, n: usize) -> Answer
     ensures { MovePromise W mem.old dest src n result mem.new }
 {
-    if let Verdict::Refuse(why) = check_ranges(mem.len(), dest, src, n) {
+    if let Err(why) = check_ranges(mem.len(), dest, src, n) {
         return Answer::refused(why);
     }
-    let mut log = [0u32; 0];
-    let mut place: usize = 0;
-    let work = move_bytes(mem, &mut log, &mut place, dest, src, n);
+
+    let mut log = Log::new(&mut []);
+    let work = move_bytes(mem, &mut log, dest, src, n);
     Answer::new(Outcome::Address(dest), work)
 }
 
@@ -79,25 +72,25 @@ fn fill_byte(c: i32) -> u8
 pub fn memset(mem: &mut [Word], s: usize, c: i32, n: usize) -> Answer
     ensures { FillPromise W mem.old s c n result mem.new }
 {
-    if let Verdict::Refuse(why) = check_range(mem.len(), s, n, Refusal::FirstOutside) {
+    if let Err(why) = check_range(mem.len(), s, n, Refusal::FirstOutside) {
         return Answer::refused(why);
     }
-    let mut log = [0u32; 0];
-    let mut place: usize = 0;
-    let work = set_bytes(mem, &mut log, &mut place, s, fill_byte(c), n);
+
+    let mut log = Log::new(&mut []);
+    let work = set_bytes(mem, &mut log, s, fill_byte(c), n);
     Answer::new(Outcome::Address(s), work)
 }
 
 pub fn memcmp(mem: &[Word], s1: usize, s2: usize, n: usize) -> Answer
     ensures { ComparePromise W mem.now s1 s2 n result mem.now }
 {
-    if let Verdict::Refuse(why) = check_ranges(mem.len(), s1, s2, n) {
+    if let Err(why) = check_ranges(mem.len(), s1, s2, n) {
         return Answer::refused(why);
     }
-    let mut log = [0u32; 0];
-    let mut place: usize = 0;
-    let compared = compare_bytes(mem, &mut log, &mut place, s1, s2, n);
-    let difference = compared.difference;
+
+    let mut log = Log::new(&mut []);
+    let compared = compare_bytes(mem, &mut log, s1, s2, n);
+    let difference = compared.value;
     Answer::new(Outcome::Number(difference), compared.work)
 }
 
@@ -108,12 +101,12 @@ pub fn bcmp(mem: &[Word], s1: usize, s2: usize, n: usize) -> Answer
 }
 
 // What a scan found, as an outcome: refusal 5 is the only one that is found by reading.
-fn scan_outcome(found: Scan) -> Outcome
+fn scan_outcome(found: Option<usize>) -> Outcome
     ensures { said_of result ≡ scan_said found }
 {
     match found {
-        Scan::Length(length) => Outcome::Length(length),
-        Scan::NoZero => Outcome::Refused(Refusal::NoZero),
+        Some(length) => Outcome::Length(length),
+        None => Outcome::Refused(Refusal::NoZero),
     }
 }
 
@@ -121,12 +114,11 @@ pub fn strlen(mem: &[Word], s: usize) -> Answer
     ensures { StringPromise W mem.now s result mem.now }
 {
     // The start lies inside where a range of one byte does.
-    if let Verdict::Refuse(why) = check_range(mem.len(), s, 1, Refusal::FirstOutside) {
+    if let Err(why) = check_range(mem.len(), s, 1, Refusal::FirstOutside) {
         return Answer::refused(why);
     }
-    let mut log = [0u32; 0];
-    let mut place: usize = 0;
-    let scanned = c_string_length(mem, &mut log, &mut place, s);
-    let found = scanned.found;
-    Answer::new(scan_outcome(found), scanned.work)
+
+    let mut log = Log::new(&mut []);
+    let scanned = c_string_length(mem, &mut log, s);
+    Answer::new(scan_outcome(scanned.value), scanned.work)
 }

@@ -4,20 +4,21 @@ ghost use Rattle.words8.specs.Word.{W};
 
 use crate::{fill_byte, move_bytes};
 use checks8::{check_copy_logged, check_fill_logged, check_move_logged};
+use copies8::copy;
 use fills8::set_bytes;
-use forward8::copy_forward;
-use model::{Answer, Outcome, Verdict};
-use words8::Word;
+use model::{Answer, Log, Outcome};
+use words8::{FORWARD, Word};
 
+// Stays: a function for each, as the plain calls are: each has its own checks, its own routine and its own promise.
 pub fn memcpy_logged(mem: &mut [Word], log: &mut [u32], dest: usize, src: usize, n: usize) -> Answer
     ensures { CopyLogPromise W mem.old log.old dest src n result
         mem.new log.new }
 {
-    if let Verdict::Refuse(why) = check_copy_logged(mem.len(), log.len(), dest, src, n) {
+    if let Err(why) = check_copy_logged(mem.len(), log.len(), dest, src, n) {
         return Answer::refused(why);
     }
-    let mut place: usize = 0;
-    let work = copy_forward(mem, log, &mut place, dest, src, n);
+    let mut log = Log::new(log);
+    let work = copy::<FORWARD>(mem, &mut log, dest, src, n);
     Answer::new(Outcome::Address(dest), work)
 }
 
@@ -31,11 +32,11 @@ pub fn memmove_logged(
     ensures { MoveLogPromise W mem.old log.old dest src n result
         mem.new log.new }
 {
-    if let Verdict::Refuse(why) = check_move_logged(mem.len(), log.len(), dest, src, n) {
+    if let Err(why) = check_move_logged(mem.len(), log.len(), dest, src, n) {
         return Answer::refused(why);
     }
-    let mut place: usize = 0;
-    let work = move_bytes(mem, log, &mut place, dest, src, n);
+    let mut log = Log::new(log);
+    let work = move_bytes(mem, &mut log, dest, src, n);
     Answer::new(Outcome::Address(dest), work)
 }
 
@@ -43,10 +44,10 @@ pub fn memset_logged(mem: &mut [Word], log: &mut [u32], s: usize, c: i32, n: usi
     ensures { FillLogPromise W mem.old log.old s c n result
         mem.new log.new }
 {
-    if let Verdict::Refuse(why) = check_fill_logged(mem.len(), log.len(), s, n) {
+    if let Err(why) = check_fill_logged(mem.len(), log.len(), s, n) {
         return Answer::refused(why);
     }
-    let mut place: usize = 0;
-    let work = set_bytes(mem, log, &mut place, s, fill_byte(c), n);
+    let mut log = Log::new(log);
+    let work = set_bytes(mem, &mut log, s, fill_byte(c), n);
     Answer::new(Outcome::Address(s), work)
 }

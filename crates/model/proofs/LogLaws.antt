@@ -10,20 +10,22 @@ use lib.Dec.{ltb}
 use lib.ListN.{length, set, drop, length-set, length-append}
 use lib.Seq.{set-append_seam}
 use borrow.Author.Tests.{lt-ltb, le-ltb}
+use Rattle.model.specs.declared.Log.{Log}
 use Rattle.model.specs.declared.Work.{Work}
 use Rattle.model.specs.Access.{Access}
-use Rattle.model.specs.Log.{entry_of, log_after, Log, log_of, entered, logged, Recorded}
+use Rattle.model.specs.Log.{entry_of, log_after, log_of, entered, logged, Recorded}
 use Rattle.model.specs.Tally.{tally, joined, Joinable}
 use Rattle.model.proofs.TallyLaws.{counted_then, joinable}
 
 -- A number is entered, or the log is at its end.
-pub entered_here : (es : List ℕ) (p number : ℕ) → p < length es → log_of (set es p number) (p + 1) ≡ entered number (log_of es p)
+pub entered_here : (number : ℕ) (g : Log) → g.place < length g.entries.now
+    → log_of g (set g.entries.now g.place number) (g.place + 1) ≡ entered number g
 unfolding entered
-entered_here es p number l = rw (lt-ltb p (length es) l) refl
+entered_here number g l = rw (lt-ltb g.place (length g.entries.now) l) refl
 
-pub entered-past : (es : List ℕ) (p number : ℕ) → length es ≤ p → log_of es p ≡ entered number (log_of es p)
+pub entered-past : (number : ℕ) (g : Log) → length g.entries.now ≤ g.place → g ≡ entered number g
 unfolding entered
-entered-past es p number l = rw (le-ltb p (length es) l) refl
+entered-past number g l = rw (le-ltb g.place (length g.entries.now) l) refl
 
 -- One access: its number is entered.
 pub recorded_one : {g g' : Log} {number : ℕ} {a : Work} (x : Access) → g' ≡ entered number g → number ≡ entry_of x → a ≡ tally (x ∷ [])
@@ -36,19 +38,25 @@ unfolding logged
 logged-append [] ys g = refl
 logged-append (x ∷ xs) ys g = logged-append xs ys (entered (entry_of x) g)
 
--- The log is as long as before.
-entered_room : (number : ℕ) (g : Log) → length (entered number g).entries ≡ length g.entries
+-- The log is as long as before, and in the same lent slice.
+entered_same : (number : ℕ) (g : Log)
+    → (length (entered number g).entries.now ≡ length g.entries.now) × ((entered number g).entries.ghost_name ≡ g.entries.ghost_name)
 unfolding entered
-entered_room number g = go (ltb g.place (length g.entries))
+entered_same number g = go (ltb g.place (length g.entries.now))
   where
-    go : (b : Bool) → length (cond b (log_of (set g.entries g.place number) (g.place + 1)) g).entries ≡ length g.entries
-    go true = length-set g.entries g.place number
-    go false = refl
+    go : (b : Bool) → let h : Log = cond b (log_of g (set g.entries.now g.place number) (g.place + 1)) g in
+        (length h.entries.now ≡ length g.entries.now) × (h.entries.ghost_name ≡ g.entries.ghost_name)
+    go true = (length-set g.entries.now g.place number, refl)
+    go false = (refl, refl)
 
-logged_room : (xs : List Access) (g : Log) → length (logged xs g).entries ≡ length g.entries
+logged_same : (xs : List Access) (g : Log)
+    → (length (logged xs g).entries.now ≡ length g.entries.now) × ((logged xs g).entries.ghost_name ≡ g.entries.ghost_name)
 unfolding logged
-logged_room [] g = refl
-logged_room (x ∷ xs) g = logged_room xs (entered (entry_of x) g) ∙ entered_room (entry_of x) g
+logged_same [] g = (refl, refl)
+logged_same (x ∷ xs) g =
+    let one = entered_same (entry_of x) g in
+    let all = logged_same xs (entered (entry_of x) g) in
+    (all.0 ∙ one.0, all.1 ∙ one.1)
 
 pub recorded_none : {g : Log} {a : Work} → a ≡ tally [] → Recorded [] g g a
 unfolding logged
@@ -61,36 +69,43 @@ recorded_then {xs} {ys} {g} p q r = record {
   counted = counted_then xs ys p.counted q.counted r;
 }
 
-pub recorded_room : {xs : List Access} {g g' : Log} {a : Work} → Recorded xs g g' a → length g'.entries ≡ length g.entries
-recorded_room {xs} {g} p = ap (λ (h : Log). length h.entries) p.noted ∙ logged_room xs g
+pub recorded_room : {xs : List Access} {g g' : Log} {a : Work} → Recorded xs g g' a → length g'.entries.now ≡ length g.entries.now
+recorded_room {xs} {g} p = ap (λ (h : Log). length h.entries.now) p.noted ∙ (logged_same xs g).0
+
+pub recorded_name : {xs : List Access} {g g' : Log} {a : Work} → Recorded xs g g' a → g'.entries.ghost_name ≡ g.entries.ghost_name
+recorded_name {xs} {g} p = ap (λ (h : Log). h.entries.ghost_name) p.noted ∙ (logged_same xs g).1
 
 pub recorded_joinable : {xs ys : List Access} {g g' h h' : Log} {a b : Work} → Recorded xs g g' a → Recorded ys h h' b
     → length xs + length ys < 2 ^ 64 → Joinable a b
 recorded_joinable {xs} {ys} p q l = joinable xs ys p.counted q.counted l
 
 -- From the place past `front` on, the numbers of the list take the places of what stood there, and the place advances past them.
-logged_from : (xs : List Access) (front rest : List ℕ) → length xs ≤ length rest
-    → logged xs (log_of (front ++ rest) (length front))
-    ≡ log_of (front ++ (map entry_of xs ++ drop (length xs) rest)) (length front + length xs)
+logged_from : (g : Log) (xs : List Access) (front rest : List ℕ) → length xs ≤ length rest
+    → logged xs (log_of g (front ++ rest) (length front))
+    ≡ log_of g (front ++ (map entry_of xs ++ drop (length xs) rest)) (length front + length xs)
 unfolding logged
-logged_from [] front rest l = ap (log_of (front ++ rest)) (omega arith)
-logged_from (x ∷ xs) front [] l = absurd (omega arith)
-logged_from (x ∷ xs) front (y ∷ rest) l =
+logged_from g [] front rest l = ap (log_of g (front ++ rest)) (omega arith)
+logged_from g (x ∷ xs) front [] l = absurd (omega arith)
+logged_from g (x ∷ xs) front (y ∷ rest) l =
     let v = entry_of x in
     let here : length front < length (front ++ (y ∷ rest)) = omega (arith, length-append front (y ∷ rest)) in
     let next : length front + 1 ≡ length (front ++ (v ∷ [])) = sym (length-append front (v ∷ [])) in
     ap (logged xs)
-    (sym (entered_here (front ++ (y ∷ rest)) (length front) v here)
-    ∙ ap₂ log_of (set-append_seam front y rest v ∙ sym (append_assoc front (v ∷ []) rest)) next)
-    ∙ logged_from xs (front ++ (v ∷ [])) rest (omega arith)
-    ∙ ap₂ log_of (append_assoc front (v ∷ []) (map entry_of xs ++ drop (length xs) rest)) (omega arith)
+    (sym (entered_here v (log_of g (front ++ (y ∷ rest)) (length front)) here)
+    ∙ ap₂ (log_of g) (set-append_seam front y rest v ∙ sym (append_assoc front (v ∷ []) rest)) next)
+    ∙ logged_from g xs (front ++ (v ∷ [])) rest (omega arith)
+    ∙ ap₂ (log_of g) (append_assoc front (v ∷ []) (map entry_of xs ++ drop (length xs) rest)) (omega arith)
 
--- An accepted call's log, and its place: the number of accesses that were made.
-pub log_written : {xs : List Access} {es : List ℕ} {g : Log} {a : Work} → Recorded xs (log_of es 0) g a → length xs ≤ length es
-    → g.entries ≡ log_after xs es
+-- An accepted call's log, from its start on, and its place: the number of accesses that were made.
+started : (xs : List Access) (g : Log) → g.place ≡ 0 → length xs ≤ length g.entries.now
+    → logged xs g ≡ log_of g (map entry_of xs ++ drop (length xs) g.entries.now) (0 + length xs)
+started xs g e l = ap (λ (p : ℕ). logged xs (log_of g g.entries.now p)) e ∙ logged_from g xs [] g.entries.now l
+
+pub log_written : {xs : List Access} {g g' : Log} {a : Work} → Recorded xs g g' a → g.place ≡ 0 → length xs ≤ length g.entries.now
+    → g'.entries.now ≡ log_after xs g.entries.now
 unfolding log_after
-log_written {xs} {es} p l = ap (λ (h : Log). h.entries) (p.noted ∙ logged_from xs [] es l)
+log_written {xs} {g} p e l = ap (λ (h : Log). h.entries.now) (p.noted ∙ started xs g e l)
 
-pub log_place : {xs : List Access} {es : List ℕ} {g : Log} {a : Work} → Recorded xs (log_of es 0) g a → length xs ≤ length es
-    → g.place ≡ length xs
-log_place {xs} {es} p l = ap (λ (h : Log). h.place) (p.noted ∙ logged_from xs [] es l) ∙ omega arith
+pub log_place : {xs : List Access} {g g' : Log} {a : Work} → Recorded xs g g' a → g.place ≡ 0 → length xs ≤ length g.entries.now
+    → g'.place ≡ length xs
+log_place {xs} {g} p e l = ap (λ (h : Log). h.place) (p.noted ∙ started xs g e l) ∙ omega arith

@@ -7,9 +7,7 @@ use Prim.Native.Nat.{ℕ, zero, suc, ◌+◌, ◌^◌, ◌<◌, ◌≤◌, suc-l
 use native.Mathlib.Nat.{zero-add, add_assoc, suc_inj, suc-ne-zero}
 use native.Mathlib.Omega.{arith}
 use lib.Dec.{eqb}
-use lib.ListN.{length, get_or, set}
-use lib.Seq.{get_or-set_same, get_or-set_other}
-use borrow.Author.Count.{below_more}
+use lib.ListN.{length, get_or}
 use Rattle.model.specs.declared.Work.{Work}
 use Rattle.model.specs.Access.{Access, load, store}
 use Rattle.model.specs.Tally.{total, load_of, store_of, eight, tally, joined, Summable, Joinable}
@@ -36,14 +34,6 @@ from_sums (x ∷ a) [] r p q h = absurd (suc-ne-zero (length a) p)
 from_sums (x ∷ a) (y ∷ b) [] p q h = absurd (suc-ne-zero (length a) (sym q))
 from_sums (x ∷ a) (y ∷ b) (z ∷ r) p q h =
     ap₂ ◌∷◌ (h 0 (omega arith)) (from_sums a b r (suc_inj p) (suc_inj q) (λ i k. h (suc i) (suc-le-suc k)))
-
--- One more sum stored.
-pub one_more_sum : (a b r : List ℕ) (i : ℕ) → i < length r → ((k : ℕ) → k < i → get_or r k 0 ≡ get_or a k 0 + get_or b k 0)
-    → (k : ℕ) → k < i + 1 → get_or (set r i (get_or a i 0 + get_or b i 0)) k 0 ≡ get_or a k 0 + get_or b k 0
-one_more_sum a b r i l h =
-    below_more (λ (k : ℕ). get_or (set r i (get_or a i 0 + get_or b i 0)) k 0 ≡ get_or a k 0 + get_or b k 0) i
-    (λ k m. get_or-set_other r i k (get_or a i 0 + get_or b i 0) 0 (omega arith) ∙ h k m)
-    (get_or-set_same r i (get_or a i 0 + get_or b i 0) 0 l)
 
 -- A record is its counts.
 pub same_counts : {a b : Work} → a.counts.numbers ≡ b.counts.numbers → a ≡ b

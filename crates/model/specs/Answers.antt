@@ -1,14 +1,12 @@
 -- What each call answers, and the words that it leaves, for all inputs: document 01's refusals, lists and meaning put together.
 -- Assumes nothing.
-use Rattle.std.specs.Prelude.{ℕ, cond, List, [], eqb, ℤ, length}
+use Rattle.std.specs.Prelude.{ℕ, cond, List, [], eqb, ℤ, length, Result, Ok, Err}
 use Rattle.model.specs.declared.Work.{Work}
 use Rattle.model.specs.declared.Answer.{Answer}
 use Rattle.model.specs.declared.Outcome.{Outcome}
 use Rattle.model.specs.declared.Outcome.TheVariants.{Address, Number, Length, Refused}
 use Rattle.model.specs.declared.Refusal.{Refusal}
 use Rattle.model.specs.declared.Refusal.TheVariants.{TooLarge, FirstOutside, SecondOutside, Overlap, NoZero, ShortLog}
-use Rattle.model.specs.declared.Verdict.{Verdict}
-use Rattle.model.specs.declared.Verdict.TheVariants.{Accept, Refuse}
 use Rattle.model.specs.Access.{Access}
 use Rattle.model.specs.Tally.{tally}
 use Rattle.model.specs.Lists.{copy_list, move_list, fill_list, compare_list, string_list}
@@ -43,9 +41,10 @@ number_of Overlap = 4
 number_of NoZero = 5
 number_of ShortLog = 6
 
-abbrev pub ruling_of : Verdict → Ruling
-ruling_of Accept = none
-ruling_of (Refuse r) = given (number_of r)
+-- What the checks of a call find, before it makes an access.
+abbrev pub ruling_of : Result (Unit {0}) Refusal → Ruling
+ruling_of (Ok _) = none
+ruling_of (Err why) = given (number_of why)
 
 abbrev pub said_of : Outcome → Said
 said_of (Address a) = an_address a

@@ -1,6 +1,7 @@
 -- Document 02, "Access log": the number that stands for an access, and the log that accesses leave.
 -- Assumes nothing.
 use Rattle.std.specs.Prelude.{◌≡◌, ℕ, ◌+◌, ◌*◌, cond, List, [], ◌∷◌, ◌++◌, map, eqb, ltb, length, set, drop}
+use Rattle.model.specs.declared.Log.{Log}
 use Rattle.model.specs.declared.Work.{Work}
 use Rattle.model.specs.Access.{Access, load, store}
 use Rattle.model.specs.Tally.{tally}
@@ -24,18 +25,15 @@ entry_of (store w a) = a + per_code * width_code w + for_store
 unfoldable pub log_after : List Access → List ℕ → List ℕ
 log_after xs es = map entry_of xs ++ drop (length xs) es
 
--- A log while accesses are made: its numbers, and the place of the next one.
-pub record Log : Type 0 where
-  pub entries : List ℕ
-  pub place : ℕ
-
-abbrev pub log_of : List ℕ → ℕ → Log
-log_of es p = record { entries = es; place = p }
+-- A log while accesses are made is the code's `Log`: `entries.now` are its numbers, `place` is that of the next one. Here a log with other
+-- numbers and another place, in the same lent slice.
+abbrev pub log_of : Log → List ℕ → ℕ → Log
+log_of g es p = record { entries = record g.entries { now = es }; place = p }
 
 -- A number is written at the place, and the place advances. At the end of the log nothing is written, and the place stays.
 unfoldable pub entered : ℕ → Log → Log
 entered number g =
-    cond (ltb g.place (length g.entries)) (log_of (set g.entries g.place number) (g.place + 1)) g
+    cond (ltb g.place (length g.entries.now)) (log_of g (set g.entries.now g.place number) (g.place + 1)) g
 
 -- Each access writes its own, in their order.
 unfoldable pub logged : List Access → Log → Log

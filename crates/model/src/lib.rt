@@ -4,20 +4,27 @@
 ghost use Rattle.std.specs.Prelude.{◌≡◌, ℕ, ◌+◌, ◌^◌, ◌%◌, ◌<◌, set, replicate};
 ghost use mathlib.Core.List.{[], ◌∷◌, zip_with};
 ghost use Rattle.model.specs.Access.{load, store};
-ghost use Rattle.model.specs.Log.{per_code, log_of, entered, Recorded};
+ghost use Rattle.model.specs.Log.{per_code, entered, Recorded};
 ghost use Rattle.model.specs.Tally.{tally, joined, Summable, Joinable};
 ghost use Rattle.model.specs.Answers.{answered, replied, refused, said_of, number_of};
 
 // How many loads of 1, 2, 4 and 8 bytes were made, then how many stores of 1, 2, 4 and 8 bytes.
-#[derive(Clone, Copy)]
+#[derive(Clone, Copy, Debug, PartialEq, Eq)]
 pub struct Counts {
     pub numbers: [u64; 8],
 }
 
 // What a routine hands back of the accesses that it made: the record that `join` adds up.
-#[derive(Clone, Copy)]
+#[derive(Clone, Copy, Debug, PartialEq, Eq)]
 pub struct Work {
     pub counts: Counts,
+}
+
+// A value, and the record of the accesses that it took.
+#[derive(Clone, Copy, Debug, PartialEq, Eq)]
+pub struct Counted<T> {
+    pub value: T,
+    pub work: Work,
 }
 
 // No access.
@@ -30,6 +37,7 @@ pub fn zero() -> Work
 }
 
 // 0, 1, 2, 3 for 1, 2, 4, 8 bytes.
+// Stays: the code is document 02's number (`width_code` of Log.antt); a width is a number that addresses and shifts are worked out from.
 pub fn width_code(width: usize) -> usize
     requires { 8 % width ≡ 0 }
     ensures { (result < 4) × (2 ^ result ≡ width) }
@@ -59,44 +67,60 @@ fn one_at(place: usize) -> Work
     }
 }
 
-// Writes a number at the place of a log and advances the place; at the end of the log it does nothing, so that no caller needs room in
-// one. Nothing else writes a log.
-fn enter(log: &mut [u32], place: &mut usize, number: usize)
-    requires { number < 2 ^ 32 }
-    ensures { log_of log.new place.new ≡ entered number (log_of log.old place.old) }
-{
-    // The plain calls lend no places. This test is the same in every turn of a loop, so that the compiler can make it once, before the loop.
-    if log.len() == 0 {
-        return;
-    }
-    let at = *place;
-    if at >= log.len() {
-        return;
-    }
-    log[at] = number as u32;
-    *place = at + 1;
+// The log that accesses are written to: the numbers that are lent, and the place of the next one. Routines only pass it on (tools/accesses).
+#[derive(Drop)]
+pub struct Log<'a> {
+    pub entries: &'a mut [u32],
+    pub place: usize,
 }
 
-// One load: for the routine that makes it.
-pub fn load_of(log: &mut [u32], place: &mut usize, at: usize, width: usize) -> Work
-    requires { (8 % width ≡ 0) × (at < per_code) }
-    ensures { Recorded (load width at ∷ [])
-        (log_of log.old place.old) (log_of log.new place.new) result }
-{
-    let code = width_code(width);
-    enter(log, place, at + PER_CODE * code);
-    one_at(code)
-}
+impl<'a> Log<'a> {
+    // An accepted call's numbers stand from the start on. The plain calls lend no places.
+    pub fn new(entries: &'a mut [u32]) -> Log<'a>
+        ensures place { result.place ≡ 0 }
+        ensures entries { result.entries.now ≡ entries.old }
+        ensures same_reference { result.entries.ghost_name ≡ entries.entry.ghost_name }
+    {
+        Log { entries, place: 0 }
+    }
 
-// One store: for the routine that makes it.
-pub fn store_of(log: &mut [u32], place: &mut usize, at: usize, width: usize) -> Work
-    requires { (8 % width ≡ 0) × (at < per_code) }
-    ensures { Recorded (store width at ∷ [])
-        (log_of log.old place.old) (log_of log.new place.new) result }
-{
-    let code = width_code(width);
-    enter(log, place, at + PER_CODE * code + FOR_STORE);
-    one_at(4 + code)
+    // Writes a number at the place and advances the place; at the end of the log it does nothing, so that no caller needs room in one.
+    // Nothing else writes a log.
+    fn enter(&mut self, number: usize)
+        requires { number < 2 ^ 32 }
+        ensures { self.new ≡ entered number self.old }
+    {
+        // The plain calls lend no places. This test is the same in every turn of a loop, so that the compiler can make it once, before the loop.
+        if self.entries.len() == 0 {
+            return;
+        }
+        let at = self.place;
+        if at >= self.entries.len() {
+            return;
+        }
+        self.entries[at] = number as u32;
+        self.place = at + 1;
+    }
+
+    // One load: for the routine that makes it.
+    pub fn load_of(&mut self, at: usize, width: usize) -> Work
+        requires { (8 % width ≡ 0) × (at < per_code) }
+        ensures { Recorded (load width at ∷ []) self.old self.new result }
+    {
+        let code = width_code(width);
+        self.enter(at + PER_CODE * code);
+        one_at(code)
+    }
+
+    // One store: for the routine that makes it.
+    pub fn store_of(&mut self, at: usize, width: usize) -> Work
+        requires { (8 % width ≡ 0) × (at < per_code) }
+        ensures { Recorded (store width at ∷ []) self.old self.new result }
+    {
+        let code = width_code(width);
+        self.enter(at + PER_CODE * code + FOR_STORE);
+        one_at(4 + code)
+    }
 }
 
 // The eight sums of two records' counts.
@@ -105,10 +129,8 @@ fn sums(a: [u64; 8], b: [u64; 8]) -> [u64; 8]
     ensures { result ≡ zip_with ◌+◌ a b }
 {
     let mut r = [0u64; 8];
-    let mut i = 0;
-    while i < 8 {
+    for i in 0..8 {
         r[i] = a[i] + b[i];
-        i += 1;
     }
     r
 }
@@ -127,7 +149,7 @@ pub fn join(a: Work, b: Work) -> Work
 }
 
 // Document 01's refusals, in the order of its table; `number_of` gives the number of each.
-#[derive(Clone, Copy)]
+#[derive(Clone, Copy, Debug, PartialEq, Eq)]
 pub enum Refusal {
     TooLarge,
     FirstOutside,
@@ -137,11 +159,12 @@ pub enum Refusal {
     ShortLog,
 }
 
-impl Refusal {
-    pub fn number(self) -> u64
-        ensures { result ≡ number_of self }
-    {
-        match self {
+// Stays: these are document 01's numbers (`number_of`), which an answer's text says.
+impl From<Refusal> for u64 {
+    ghost from_gives = { λ why number. number ≡ number_of why };
+
+    fn from(why: Refusal) -> u64 {
+        match why {
             Refusal::TooLarge => 1,
             Refusal::FirstOutside => 2,
             Refusal::SecondOutside => 3,
@@ -152,14 +175,8 @@ impl Refusal {
     }
 }
 
-// What the checks of a call find, before it makes an access.
-#[derive(Clone, Copy)]
-pub enum Verdict {
-    Accept,
-    Refuse(Refusal),
-}
-
-#[derive(Clone, Copy)]
+// Stays: document 01 names this form, an enum of address, signed number, length and refusal; no `?` would hand a refusal on by it.
+#[derive(Clone, Copy, Debug, PartialEq, Eq)]
 pub enum Outcome {
     Address(usize),
     Number(i32),
@@ -167,7 +184,7 @@ pub enum Outcome {
     Refused(Refusal),
 }
 
-#[derive(Clone, Copy)]
+#[derive(Clone, Copy, Debug, PartialEq, Eq)]
 pub struct Answer {
     pub outcome: Outcome,
     pub counts: Counts,

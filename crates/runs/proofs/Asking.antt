@@ -1,15 +1,16 @@
 -- What is asked of a whole range holds of its parts, in both directions: further on, fewer bytes are ahead of the cursors.
 -- Assumes nothing.
-use mathlib.Core.Path.{◌≡◌, refl, ap}
+use mathlib.Core.Path.{◌≡◌, refl, ap, ◌∙◌}
 use mathlib.Core.Bool.{Bool, true, false}
-use Prim.Native.Nat.{ℕ, ◌+◌, ◌*◌, ◌%◌, ◌<◌, ◌≤◌}
-use native.Mathlib.Nat.{mod-one, mod_self}
+use Prim.Native.Nat.{ℕ, suc, ◌+◌, ◌*◌, ◌/◌, ◌%◌, ◌<◌, ◌≤◌}
+use native.Mathlib.Nat.{mod-one, mod-eq_of_lt, mul-suc, mul-le-mul_left, div-add-mod}
+use native.Mathlib.Decide.{dec_lt}
 use native.Mathlib.Omega.{arith}
-use Rattle.runs.specs.Asked.{Ahead, Both, Words, Across}
+use Rattle.runs.specs.Asked.{Ahead, Both, Chunks}
 use Rattle.model.specs.Fit.{Range, Fit}
 use Rattle.model.specs.Lists.{cursor, chunk, past}
 use Rattle.lists.proofs.Blocks.{aligned}
-use Rattle.lists.proofs.Cursors.{Room, cursor_start}
+use Rattle.lists.proofs.Cursors.{Room, cursor_start, past_none, past_boundary, chunk_boundary}
 
 -- n bytes at a range's first address.
 pub ahead_start : {W k : ℕ} (up : Bool) (a n : ℕ) → Range W k a n → Ahead up W k (cursor up a n) n
@@ -40,23 +41,65 @@ pub both_past : {W k k' d d' s s' n n' : ℕ} (up : Bool) (m : ℕ) → k' ≡ k
     → Both up W k d s n → Both up W k' d' s' n'
 both_past up m e p q l h = record { dest = ahead_past up m e p l h.dest; src = ahead_past up m e q l h.src }
 
--- Whole words, once the head has brought the destination to a boundary.
-pub words_ahead : {W k k' d d' s s' n : ℕ} (up : Bool) (h m : ℕ) → Both up W k d s n → k' ≡ k → d' ≡ past up d h → s' ≡ past up s h
-    → h + m ≤ n → m % W ≡ 0 → d' % W ≡ 0 → Words up W k' d' s' m
-words_ahead up h m b e p q l w a = record { both = both_past up h e p q l b; whole = w; aligned = a }
+-- ---- two cursors
 
--- An access of all the bytes ahead.
-pub ahead_fit : {up : Bool} {W k c w : ℕ} → Ahead up W k c w → W % w ≡ 0 → chunk up c w % w ≡ 0 → Fit W k w (chunk up c w)
-ahead_fit h p q = record { aligned = aligned p q; range = h.range }
+-- Two cursors that have advanced together are as far apart as before, and so are the next chunks of both.
+pub level : {W k d s n : ℕ} (up : Bool) (m : ℕ) → Both up W k d s n → m ≤ n → past up d m + s ≡ past up s m + d
+level true m h l = omega arith
+level false m h l = omega (arith, h.dest.here, h.src.here)
 
--- The next whole word of the source, where two words are ahead and the cursor stands inside the word at b.
-pub across_fit : {W k d b o at : ℕ} (up : Bool) → Across up W k d b o (W + W) → at ≡ past up b W → at % W ≡ 0 → Fit W k W at
-across_fit {W} {k} {d} {b} {o} {at} up h e q =
-    record { aligned = aligned (mod_self W) q; range = record { few = h.words.both.src.range.few; inside = inside up h e } }
+pub level_chunk : {W k d s n : ℕ} (up : Bool) (m w : ℕ) → Both up W k d s n → m + w ≤ n
+    → chunk up (past up d m) w + s ≡ chunk up (past up s m) w + d
+level_chunk true m w h l = omega arith
+level_chunk false m w h l = omega (arith, h.dest.here, h.src.here)
+
+pub level_start : (up : Bool) (dest src n : ℕ) → cursor up dest n + src ≡ cursor up src n + dest
+level_start true dest src n = omega arith
+level_start false dest src n = omega arith
+
+-- ---- chunks, one after the other
+
+-- The chunk at place i, of the n / w chunks that lie in n bytes.
+pub chunk_within : (w n i : ℕ) → i < n / w → w * i + w ≤ n
+chunk_within w n i l =
+    let upto : suc i ≤ n / w = omega arith in
+    omega (arith, mul-suc w i, mul-le-mul_left w upto, div-add-mod n w)
+
+module _ {W w k d s n : ℕ} (up : Bool) (i : ℕ) (h : Chunks up W w k d s n) (l : i < n / w) where
+  chunk_ahead : Both up W k (past up d (w * i)) (past up s (w * i)) w
+  chunk_ahead = both_past up (w * i) refl refl refl (chunk_within w n i l) h.both
+
+  -- Its accesses fit.
+  pub chunk_fits : {k' d₁ s₁ d₂ s₂ : ℕ} → k' ≡ k → d₁ ≡ past up d (w * i) → s₁ ≡ past up s (w * i) → d₂ ≡ chunk up d₁ w
+      → s₂ ≡ chunk up s₁ w → Fit W k' w d₂ × Fit W k' w s₂
+  chunk_fits e p q x y = rw (e, x, y, p, q) (at h.both.dest h.dest chunk_ahead.dest, at h.both.src h.src chunk_ahead.src)
+    where
+      at : {c : ℕ} → Ahead up W k c n → c % w ≡ 0 → Ahead up W k (past up c (w * i)) w → Fit W k w (chunk up (past up c (w * i)) w)
+      at {c} a m b = record {
+        aligned = aligned h.divides
+            (ap (λ (x : ℕ). chunk up (past up c x) w % w) (omega arith)
+            ∙ chunk_boundary up c n 0 w i (ahead_room up a) (omega (arith, mul-suc w i, chunk_within w n i l))
+            (ap (λ (x : ℕ). x % w) (past_none up c) ∙ m));
+        range = b.range;
+      }
+
+-- ---- words across two of the source
+
+-- Where a word or more is ahead of a cursor inside the word at b, there is a word after that one.
+pub next_room : {W k o n : ℕ} (up : Bool) (b : ℕ) → Ahead up W k (b + o) n → b % W ≡ 0 → o < W → W ≤ n → Room up b W
+next_room true b h e l m = tt
+next_room {W} false b h e l m = go (dec_lt b W)
   where
-    inside : (up : Bool) → Across up W k d b o (W + W) → at ≡ past up b W → at + W ≤ W * k
-    inside true h e = omega (arith, h.words.both.src.range.inside)
-    inside false h e = omega (arith, h.words.both.src.here, h.words.both.src.range.inside, h.less)
+    go : Dec (b < W) → W ≤ b
+    go (yes i) = absurd (omega (arith, h.here, mod-eq_of_lt i))
+    go (no i) = omega arith
+
+pub next_boundary : (up : Bool) (W b : ℕ) → Room up b W → b % W ≡ 0 → past up b W % W ≡ 0
+next_boundary up W b r e =
+    ap (λ (x : ℕ). past up b x % W) (omega arith)
+    ∙ past_boundary up b W 0 W 1 r (omega arith) (ap (λ (x : ℕ). x % W) (past_none up b) ∙ e)
+
+-- ---- single bytes
 
 -- An access of one byte of a range.
 pub byte_fit : {W k a n x : ℕ} → Range W k a n → a ≤ x → x < a + n → Fit W k 1 x

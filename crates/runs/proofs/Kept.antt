@@ -11,17 +11,21 @@ use lib.IntN.{ℤ}
 use lib.ListN.{length, get_or}
 use borrow.Author.Tests.{ltb-true, ltb-false, eq-eqb, ne_eqb}
 use Rattle.model.specs.declared.Answer.{Answer}
-use Rattle.model.specs.declared.Verdict.{Verdict}
+use Rattle.std.specs.Prelude.{Result}
+use Rattle.std.specs.Result.{IsErrAnd}
+use Rattle.std.proofs.lemmas.Result.{err_from_is_err_and}
+use Rattle.model.specs.declared.Refusal.{Refusal}
 use Rattle.model.specs.declared.Work.{Work}
 use Rattle.model.specs.Access.{Access}
-use Rattle.model.specs.Answers.{ruling_of, Said, Reply, an_address, a_number, a_length, a_refusal, answered, replied, accepted, refused, copy_answer, move_answer, fill_answer, compare_answer, copy_words, move_words, fill_words}
-use Rattle.model.specs.Lists.{along, copy_list, upward, move_list, fill_list, compare_list, string_list}
+use Rattle.model.specs.Answers.{number_of, ruling_of, Said, Reply, an_address, a_number, a_length, a_refusal, answered, replied, accepted, refused, copy_answer, move_answer, fill_answer, compare_answer, copy_words, move_words, fill_words}
+use Rattle.model.specs.Lists.{copy_list, move_list, fill_list, compare_list, string_list}
 use Rattle.model.specs.Meaning.{memcpy, memmove, memset, memcmp, difference, is_null}
 use Rattle.model.specs.Memory.{byte_of, view, packed}
 use Rattle.model.specs.Perform.{State, perform, moving, filling}
 use Rattle.model.specs.Promises.{Promised, CopyPromise, MovePromise, FillPromise, ComparePromise, StringPromise, LogPromised, CopyLogPromise, MoveLogPromise, FillLogPromise}
-use Rattle.runs.specs.Ran.{Lent, beside, lent, Ran, Found}
-use Rattle.model.specs.Log.{Log}
+use Rattle.runs.specs.Ran.{Lent, lent, Ran, Found}
+use Rattle.model.specs.declared.Log.{Log}
+use Rattle.model.specs.Log.{log_after}
 use Rattle.model.specs.Refusals.{Line, Ruling, checked, none, given, ruled, to_end, zero_at, ranges_table, copy_table, fill_table, log_table, start_table}
 use Rattle.model.proofs.AnswerLaws.{string_start}
 use Rattle.model.proofs.MemoryLaws.{packed-view}
@@ -34,8 +38,13 @@ use Rattle.lists.proofs.Performed.{copy_performed, move_performed, fill_performe
 use Rattle.runs.proofs.Tests.{start_outside_lem}
 
 -- What the checks were proved to find, at the verdict that they gave.
-pub ruled_by : {v u : Verdict} {x : Ruling} → ruling_of v ≡ x → v ≡ u → x ≡ ruling_of u
+pub ruled_by : {v u : Result (Unit {0}) Refusal} {x : Ruling} → ruling_of v ≡ x → v ≡ u → x ≡ ruling_of u
 ruled_by a b = sym a ∙ ap ruling_of b
+
+-- A refusal that a `?` hands on.
+pub handed_on : {x : Ruling} (r : Result (Unit {0}) Refusal) (why : Refusal) → IsErrAnd r (λ e. e ≡ why) → given (number_of why) ≡ x
+    → ruling_of r ≡ x
+handed_on r why h e = let p = err_from_is_err_and r h in rw (p.1, p.2) e
 
 -- ---- any call that may change the memory
 
@@ -76,17 +85,12 @@ unfolding copy_answer copy_words
 copy_refused W dest src n e a = refused_kept _ _ _ e a
 
 pub copy_kept : {W : ℕ} {r : Answer} {ws ws' : List ℕ} {g g' : Log} {work : Work} → Core W → (dest src n : ℕ) → Fitting W ws'
-    → ruled (copy_table W (length ws) dest src n) ≡ none → Ran W (moving dest src) (copy_list W dest src n) (beside ws g) (beside ws' g') work
+    → ruled (copy_table W (length ws) dest src n) ≡ none → Ran W (moving dest src) (copy_list W dest src n) (lent ws g) (lent ws' g') work
     → answered r ≡ replied (an_address dest) work → CopyPromise W ws dest src n r ws'
 unfolding copy_answer copy_words
 copy_kept {W} {ws = ws} p dest src n h e ran a =
     let apart = (copy_accepted W (length ws) dest src n e).1 in
     accepted_kept ws _ _ _ e (a ∙ ap (replied (an_address dest)) ran.recorded.counted) (left_words (memcpy dest src n) h ran (copy_performed p dest src n apart))
-
--- The direction that was taken is the move's.
-pub direction_taken : {W : ℕ} {z z' : Lent} {work : Work} (dest src n : ℕ) (up : Bool) → upward dest src n ≡ up
-    → Ran W (moving dest src) (along up W dest src n) z z' work → Ran W (moving dest src) (move_list W dest src n) z z' work
-direction_taken dest src n up e ran = rw e ran
 
 pub move_refused : {r : Answer} {ws : List ℕ} {i : ℕ} (W dest src n : ℕ) → ruled (ranges_table W (length ws) dest src n) ≡ given i
     → answered r ≡ refused i → MovePromise W ws dest src n r ws
@@ -94,7 +98,7 @@ unfolding move_answer move_words
 move_refused W dest src n e a = refused_kept _ _ _ e a
 
 pub move_kept : {W : ℕ} {r : Answer} {ws ws' : List ℕ} {g g' : Log} {work : Work} → Core W → (dest src n : ℕ) → Fitting W ws'
-    → ruled (ranges_table W (length ws) dest src n) ≡ none → Ran W (moving dest src) (move_list W dest src n) (beside ws g) (beside ws' g') work
+    → ruled (ranges_table W (length ws) dest src n) ≡ none → Ran W (moving dest src) (move_list W dest src n) (lent ws g) (lent ws' g') work
     → answered r ≡ replied (an_address dest) work → MovePromise W ws dest src n r ws'
 unfolding move_answer move_words
 move_kept {ws = ws} p dest src n h e ran a =
@@ -106,7 +110,7 @@ unfolding fill_answer fill_words
 fill_refused W s c n e a = refused_kept _ _ _ e a
 
 pub fill_kept : {W b : ℕ} {r : Answer} {ws ws' : List ℕ} {g g' : Log} {work : Work} → Core W → (s : ℕ) (c : ℤ) (n : ℕ) → Fitting W ws'
-    → ruled (fill_table W (length ws) s n) ≡ none → b ≡ byte_of c → Ran W (filling b) (fill_list W s n) (beside ws g) (beside ws' g') work
+    → ruled (fill_table W (length ws) s n) ≡ none → b ≡ byte_of c → Ran W (filling b) (fill_list W s n) (lent ws g) (lent ws' g') work
     → answered r ≡ replied (an_address s) work → FillPromise W ws s c n r ws'
 unfolding fill_answer fill_words
 fill_kept {ws = ws} p s c n h e q ran a =
@@ -171,36 +175,44 @@ log_refused lines dest xs words e a = record {
   log = sym (checked-given _ _ _ e);
 }
 
+-- The log g that a call makes of the numbers es that it is lent begins at their start.
+pub record Fresh (es : List ℕ) (g : Log) : Type 0 where
+  pub place : g.place ≡ 0
+  pub entries : g.entries.now ≡ es
+
 -- It is accepted: the list was performed, and written from place 0 on.
-log_kept : {W p : ℕ} {give : (ℕ → ℕ) → ℕ → ℕ} {r : Answer} {xs : List Access} {ws ws' es es' : List ℕ} {work : Work} (lines : List Line) (dest : ℕ)
-    (meant : (ℕ → ℕ) → ℕ → ℕ) → Fitting W ws' → ruled (log_table lines xs (length es)) ≡ none
-    → Ran W give xs (lent ws es 0) (lent ws' es' p) work → ((y : State) → (perform give xs y).bytes ≡ meant y.bytes)
-    → answered r ≡ replied (an_address dest) work → LogPromised lines dest xs (packed W (length ws) (meant (view W ws))) ws es r ws' es'
-log_kept {xs = xs} {es = es} lines dest meant h e ran m a = record {
+log_kept : {W : ℕ} {give : (ℕ → ℕ) → ℕ → ℕ} {r : Answer} {xs : List Access} {ws ws' es : List ℕ} {g g' : Log} {work : Work} (lines : List Line)
+    (dest : ℕ) (meant : (ℕ → ℕ) → ℕ → ℕ) → Fitting W ws' → ruled (log_table lines xs (length es)) ≡ none → Fresh es g
+    → Ran W give xs (lent ws g) (lent ws' g') work → ((y : State) → (perform give xs y).bytes ≡ meant y.bytes)
+    → answered r ≡ replied (an_address dest) work
+    → LogPromised lines dest xs (packed W (length ws) (meant (view W ws))) ws es r ws' g'.entries.now
+log_kept {xs = xs} {es = es} lines dest meant h e f ran m a = record {
   answer = a ∙ ap (replied (an_address dest)) ran.recorded.counted ∙ sym (checked_none _ _ _ e);
   memory = left_words meant h ran m ∙ sym (checked_none _ _ _ e);
-  log = log_written ran.recorded (log_accepted lines xs (length es) e).1 ∙ sym (checked_none _ _ _ e);
+  log =
+      log_written ran.recorded f.place (rw f.entries (log_accepted lines xs (length es) e).1) ∙ ap (log_after xs) f.entries
+      ∙ sym (checked_none _ _ _ e);
 }
 
-module _ {W p : ℕ} {r : Answer} {ws ws' es es' : List ℕ} {work : Work} (core : Core W) where
+module _ {W : ℕ} {r : Answer} {ws ws' es : List ℕ} {g g' : Log} {work : Work} (core : Core W) where
   pub copy_log_kept : (dest src n : ℕ) → Fitting W ws'
-      → ruled (log_table (copy_table W (length ws) dest src n) (copy_list W dest src n) (length es)) ≡ none
-      → Ran W (moving dest src) (copy_list W dest src n) (lent ws es 0) (lent ws' es' p) work
-      → answered r ≡ replied (an_address dest) work → CopyLogPromise W ws es dest src n r ws' es'
-  copy_log_kept dest src n h e ran a =
+      → ruled (log_table (copy_table W (length ws) dest src n) (copy_list W dest src n) (length es)) ≡ none → Fresh es g
+      → Ran W (moving dest src) (copy_list W dest src n) (lent ws g) (lent ws' g') work
+      → answered r ≡ replied (an_address dest) work → CopyLogPromise W ws es dest src n r ws' g'.entries.now
+  copy_log_kept dest src n h e f ran a =
       let asked = copy_accepted W (length ws) dest src n (log_accepted _ _ _ e).0 in
-      log_kept _ _ (memcpy dest src n) h e ran (copy_performed core dest src n asked.1) a
+      log_kept _ _ (memcpy dest src n) h e f ran (copy_performed core dest src n asked.1) a
 
   pub move_log_kept : (dest src n : ℕ) → Fitting W ws'
-      → ruled (log_table (ranges_table W (length ws) dest src n) (move_list W dest src n) (length es)) ≡ none
-      → Ran W (moving dest src) (move_list W dest src n) (lent ws es 0) (lent ws' es' p) work
-      → answered r ≡ replied (an_address dest) work → MoveLogPromise W ws es dest src n r ws' es'
-  move_log_kept dest src n h e ran a =
-      log_kept _ _ (memmove dest src n) h e ran (move_performed core dest src n) a
+      → ruled (log_table (ranges_table W (length ws) dest src n) (move_list W dest src n) (length es)) ≡ none → Fresh es g
+      → Ran W (moving dest src) (move_list W dest src n) (lent ws g) (lent ws' g') work
+      → answered r ≡ replied (an_address dest) work → MoveLogPromise W ws es dest src n r ws' g'.entries.now
+  move_log_kept dest src n h e f ran a =
+      log_kept _ _ (memmove dest src n) h e f ran (move_performed core dest src n) a
 
   pub fill_log_kept : {b : ℕ} (s : ℕ) (c : ℤ) (n : ℕ) → Fitting W ws'
-      → ruled (log_table (fill_table W (length ws) s n) (fill_list W s n) (length es)) ≡ none → b ≡ byte_of c
-      → Ran W (filling b) (fill_list W s n) (lent ws es 0) (lent ws' es' p) work
-      → answered r ≡ replied (an_address s) work → FillLogPromise W ws es s c n r ws' es'
-  fill_log_kept s c n h e q ran a =
-      log_kept _ _ (memset s c n) h e ran (λ (y : State). rw q (fill_performed core s n c y)) a
+      → ruled (log_table (fill_table W (length ws) s n) (fill_list W s n) (length es)) ≡ none → Fresh es g → b ≡ byte_of c
+      → Ran W (filling b) (fill_list W s n) (lent ws g) (lent ws' g') work
+      → answered r ≡ replied (an_address s) work → FillLogPromise W ws es s c n r ws' g'.entries.now
+  fill_log_kept s c n h e f q ran a =
+      log_kept _ _ (memset s c n) h e f ran (λ (y : State). rw q (fill_performed core s n c y)) a

@@ -7,5 +7,4 @@ pub mod Phases
 pub mod Passed
 pub mod Tests
 pub mod Rooms
-pub mod FillByte
 pub mod Kept

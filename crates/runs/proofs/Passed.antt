@@ -13,13 +13,14 @@ use lib.IntN.{ℤ, pos, ◌-ℤ◌}
 use lib.ListN.{length}
 use borrow.Author.Count.{below_more}
 use borrow.Author.Tests.{eq-eqb, ne_eqb, lt-ltb, le-ltb}
+use Rattle.model.specs.declared.Log.{Log}
 use Rattle.model.specs.declared.Work.{Work}
 use Rattle.model.specs.Access.{Access, load}
 use Rattle.model.specs.Lists.{upto, compare_list, string_list}
 use Rattle.model.specs.Meaning.{first, unequal, difference, differ_at, memcmp, is_null, strlen}
 use Rattle.model.specs.Memory.{read_le}
 use Rattle.runs.specs.Ran.{Found}
-use Rattle.model.specs.Log.{Log, Recorded}
+use Rattle.model.specs.Log.{Recorded}
 use Rattle.model.specs.Tally.{total, tally, joined, Joinable}
 use Rattle.model.proofs.ByteLaws.{read_le_one}
 use Rattle.model.proofs.LogLaws.{recorded_none, recorded_then, recorded_joinable}

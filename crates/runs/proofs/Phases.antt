@@ -2,10 +2,10 @@
 -- direction.
 -- Assumes nothing.
 use mathlib.Core.Path.{◌≡◌, refl, sym, ap, ◌∙◌}
-use mathlib.Core.Bool.{Bool, true, false}
+use mathlib.Core.Bool.{Bool, true}
 use mathlib.Core.List.{List, [], ◌++◌}
 use Prim.Native.Nat.{ℕ, ◌+◌, ◌*◌, ◌-◌, ◌/◌, ◌%◌, ◌^◌, ◌<◌, ◌≤◌}
-use native.Mathlib.Nat.{div-add-mod, div-le_self, mul-div_cancel_left}
+use native.Mathlib.Nat.{div-add-mod, div-le_self, div-one, mul-div_cancel_left}
 use native.Mathlib.Omega.{arith}
 use lib.ListN.{length, length-append}
 use borrow.Author.Tests.{lt-ltb, le-ltb, eq-eqb, ne_eqb}
@@ -20,11 +20,12 @@ use Rattle.model.specs.Tally.{tally, joined, Joinable}
 use Rattle.runs.proofs.RanLaws.{ran_none, ran_then, ran_together}
 use Rattle.model.proofs.TallyLaws.{joinable}
 use Rattle.lists.specs.Sizes.{Core}
-use Rattle.runs.proofs.Asking.{both_start, both_past}
-use Rattle.lists.proofs.Bounds.{whole_words_few, along_few, fill_few}
+use Rattle.runs.proofs.Asking.{level, level_start}
+use Rattle.model.proofs.LogLaws.{recorded_then, recorded_joinable}
+use Rattle.lists.proofs.Bounds.{whole_words_few, fill_few}
 use Rattle.lists.proofs.Lengths.{pairs-length, stores-length}
 use Rattle.lists.proofs.Cores.{core_some, split}
-use Rattle.lists.proofs.Cursors.{past_none, past-past}
+use Rattle.lists.proofs.Cursors.{past-past}
 
 -- ---- the words
 
@@ -67,89 +68,59 @@ parts {W} p up d n l =
       sum = omega (arith, div-add-mod (n - h) W, s.sum);
     }
 
--- The cursors of dest and src have advanced to d' and s', together; n' bytes are left, and they are the tail.
-pub record Begun (up : Bool) (W dest src n d' s' n' : ℕ) (z z' : Lent) (work : Work) : Type 0 where
-  pub done : List Access
-  pub ran : Ran W (moving dest src) done z z' work
-  pub rest : along up W dest src n ≡ done ++ pairs up 1 d' s' n'
-  pub ahead : Both up W (length z'.words) d' s' n'
-  pub apart : d' + src ≡ s' + dest
-
--- Below the threshold nothing is done yet: all n bytes are the tail.
-pub begun_short : {W dest src n : ℕ} {z : Lent} {a : Work} (up : Bool) → n < threshold W
-    → Range W (length z.words) dest n × Range W (length z.words) src n → a ≡ tally [] → Begun up W dest src n (cursor up dest n) (cursor up src n) n z z a
+-- Below the threshold all n bytes are copied one by one.
+pub short_done : {W n d s : ℕ} {z z' : Lent} {a : Work} (up : Bool) (dest src : ℕ) → n < threshold W → d ≡ cursor up dest n
+    → s ≡ cursor up src n → Ran W (moving d s) (pairs up 1 d s (n / 1)) z z' a → Ran W (moving dest src) (along up W dest src n) z z' a
 unfolding along run
-begun_short {dest = dest} {src} {n} up l p e = record {
-  done = [];
-  ran = ran_none e;
-  rest = simp (lt-ltb n _ l);
-  ahead = both_start up p;
-  apart = level up;
-}
-  where
-    level : (up : Bool) → cursor up dest n + src ≡ cursor up src n + dest
-    level true = omega arith
-    level false = omega arith
+short_done {W} {n} {d} {s} up dest src l i j r =
+    rw (lt-ltb n (threshold W) l, ← i, ← j) (ran_together d s dest src (rw (i, j) (level_start up dest src n)) (rw (div-one n) at r))
 
--- The bytes of the head.
-pub head_ahead : {W k d s n h : ℕ} (up : Bool) → Both up W k d s n → h ≤ n → Both up W k d s h
-head_ahead up b l = both_past up 0 refl (sym (past_none up _)) (sym (past_none up _)) (omega arith) b
+-- At the threshold and above it they are the three parts. The records can be joined: a copy has at most two accesses for each byte.
+module _ {W n d h m t : ℕ} {z z' z'' : Lent} {a b : Work} (core : Core W) (up : Bool) (s d₁ s₁ : ℕ) (p : Parts up W d n h m t)
+    (first : Ran W (moving d s) (pairs up 1 d s (h / 1)) z z' a)
+    (words : Ran W (moving d₁ s₁) (whole_words up W d₁ s₁ (m / W)) z' z'' b) where
+  pub words_joinable : n < 2 ^ 62 → Joinable a b
+  words_joinable few =
+      recorded_joinable first.recorded words.recorded
+      (omega (
+        arith,
+        pairs-length up 1 d s (h / 1),
+        div-one h,
+        whole_words_few core up d₁ s₁ (m / W) p.some,
+        p.words,
+        p.sum,
+      ))
 
--- At the threshold and above it the head and the words are done.
-module _ {W n h m t d₁ s₁ d₂ s₂ : ℕ} {z z' z'' : Lent} {a b : Work} (dest src : ℕ) where
-  pub begun_long : {c : Work} (up : Bool) → Parts up W (cursor up dest n) n h m t
-      → Both up W (length z.words) (cursor up dest n) (cursor up src n) n
-      → d₁ ≡ past up (cursor up dest n) h → s₁ ≡ past up (cursor up src n) h → d₂ ≡ past up d₁ m → s₂ ≡ past up s₁ m
-      → Ran W (moving (cursor up dest n) (cursor up src n)) (pairs up 1 (cursor up dest n) (cursor up src n) h) z z' a
-      → Ran W (moving d₁ s₁) (whole_words up W d₁ s₁ (m / W)) z' z'' b → c ≡ joined a b → Begun up W dest src n d₂ s₂ t z z'' c
-  unfolding along run phases
-  begun_long {c} up p both i j k l r q f = record {
-    done = pairs up 1 (cursor up dest n) (cursor up src n) h ++ whole_words up W d₁ s₁ (m / W);
-    ran = all;
-    rest = rw (le-ltb n (threshold W) p.long, ← p.first, ← p.count, ← p.last, ← i, ← j, p.words, ← k, ← l) refl;
-    ahead =
-        both_past up (h + m) all.size (further (cursor up dest n) k i) (further (cursor up src n) l j) (omega (arith, p.sum)) both;
-    apart = level up (h + m) (omega (arith, p.sum)) (further (cursor up dest n) k i) (further (cursor up src n) l j);
-  }
-    where
-      further : (c : ℕ) {c₁ c₂ : ℕ} → c₂ ≡ past up c₁ m → c₁ ≡ past up c h → c₂ ≡ past up c (h + m)
-      further c x y = x ∙ ap (λ (v : ℕ). past up v m) y ∙ past-past up c h m
+  module _ {z₃ : Lent} {c e : Work} (d₂ s₂ : ℕ) (q : c ≡ joined a b) (last : Ran W (moving d₂ s₂) (pairs up 1 d₂ s₂ (t / 1)) z'' z₃ e) where
+    pub tail_joinable : n < 2 ^ 62 → Joinable c e
+    tail_joinable few =
+        recorded_joinable (recorded_then first.recorded words.recorded q) last.recorded
+        (omega (
+          arith,
+          length-append (pairs up 1 d s (h / 1)) (whole_words up W d₁ s₁ (m / W)),
+          pairs-length up 1 d s (h / 1),
+          div-one h,
+          whole_words_few core up d₁ s₁ (m / W) p.some,
+          p.words,
+          p.sum,
+          pairs-length up 1 d₂ s₂ (t / 1),
+          div-one t,
+        ))
 
-      level : (up : Bool) (g : ℕ) → g ≤ n → {d s : ℕ} → d ≡ past up (cursor up dest n) g → s ≡ past up (cursor up src n) g
-          → d + src ≡ s + dest
-      level true g o u v = omega arith
-      level false g o u v = omega arith
-
-      all : Ran W (moving dest src) (pairs up 1 (cursor up dest n) (cursor up src n) h ++ whole_words up W d₁ s₁ (m / W)) z z'' c
-      all =
-          ran_then (ran_together (cursor up dest n) (cursor up src n) dest src
-          (level up 0 (omega arith) (sym (past_none up _)) (sym (past_none up _))) r)
-          (ran_together d₁ s₁ dest src (level up h (omega (arith, p.sum)) i j) q) f
-
--- The records of the head and of the words can be joined: a copy has at most two accesses for each byte.
-pub phases_joinable : {W d n h m t : ℕ} {a b : Work} → Core W → (up : Bool) (s d₁ s₁ : ℕ) → Parts up W d n h m t → n < 2 ^ 62
-    → a ≡ tally (pairs up 1 d s h) → b ≡ tally (whole_words up W d₁ s₁ (m / W)) → Joinable a b
-phases_joinable {W} {d} {h = h} {m} core up s d₁ s₁ p few r q =
-    joinable (pairs up 1 d s h) (whole_words up W d₁ s₁ (m / W)) r q
-    (omega (
-      arith,
-      pairs-length up 1 d s h,
-      whole_words_few core up d₁ s₁ (m / W) p.some,
-      p.words,
-      p.sum,
-    ))
-
--- The tail is done, and so the whole list.
-pub begun_done : {W dest src n d' s' n' : ℕ} {z z' z'' : Lent} {a b c : Work} {up : Bool}
-    → Begun up W dest src n d' s' n' z z' a → Ran W (moving d' s') (pairs up 1 d' s' n') z' z'' b → c ≡ joined a b
-    → Ran W (moving dest src) (along up W dest src n) z z'' c
-begun_done {dest = dest} {src} {d' = d'} {s'} p r j = rw p.rest (ran_then p.ran (ran_together d' s' dest src p.apart r) j)
-
-pub begun_joinable : {W dest src n d' s' n' : ℕ} {z z' : Lent} {a b : Work} {up : Bool} → Core W → (p : Begun up W dest src n d' s' n' z z' a)
-    → b ≡ tally (pairs up 1 d' s' n') → n < 2 ^ 62 → Joinable a b
-begun_joinable {dest = dest} {src} {n} {d'} {s'} {n'} {up = up} core p r few =
-    joinable p.done (pairs up 1 d' s' n') p.ran.recorded.counted r
-    (omega (arith, along_few core up dest src n, ap length p.rest, length-append p.done (pairs up 1 d' s' n')))
+    pub long_done : {f : Work} (dest src : ℕ) → Both up W (length z.words) d s n → d ≡ cursor up dest n → s ≡ cursor up src n
+        → d₁ ≡ past up d h → s₁ ≡ past up s h → d₂ ≡ past up d₁ m → s₂ ≡ past up s₁ m → f ≡ joined c e
+        → Ran W (moving dest src) (along up W dest src n) z z₃ f
+    unfolding along run phases
+    long_done dest src both x y i j k l f =
+        rw (le-ltb n (threshold W) p.long, ← x, ← y, ← p.first, ← p.count, ← p.last, ← i, ← j, p.words, ← k, ← l)
+        (ran_together d s dest src start
+        (ran_then
+        (ran_then (rw (div-one h) at first) (ran_together d₁ s₁ d s (rw (i, j) (level up h both (omega (arith, p.sum)))) words) q)
+        (ran_together d₂ s₂ d s (rw (k, l, i, j, past-past up d h m, past-past up s h m) (level up (h + m) both (omega (arith, p.sum))))
+        (rw (div-one t) at last)) f))
+      where
+        start : d + src ≡ s + dest
+        start = rw (x, y) (level_start up dest src n)
 
 -- ---- the parts of a fill
 

@@ -12,9 +12,9 @@ use Rattle.model.specs.Access.{Access, load, store}
 use Rattle.model.specs.Memory.{byte, view, read_le, over, laid}
 use Rattle.model.specs.Lists.{upto}
 use Rattle.model.specs.Perform.{State, perform, moving, filling}
-use Rattle.model.specs.Log.{Log}
+use Rattle.model.specs.declared.Log.{Log}
 use Rattle.model.specs.Tally.{tally, joined, Joinable}
-use Rattle.runs.specs.Ran.{Lent, beside, Carried, Ran, Stored, Found}
+use Rattle.runs.specs.Ran.{Lent, lent, Carried, Ran, Stored, Found}
 use Rattle.model.proofs.ByteLaws.{read_le-byte}
 use Rattle.model.proofs.MemoryLaws.{over_in, over_cong, view_lt}
 use Rattle.model.proofs.PerformLaws.{perform-append}
@@ -78,7 +78,7 @@ module _ {W : ℕ} {give : (ℕ → ℕ) → ℕ → ℕ} {pre mid post : (ℕ �
 
 module _ {W w d v : ℕ} {z z' : Lent} {a : Work} where
   pub ran_pair : {s : ℕ} {g : Log} {b c : Work} → Found (read_le (view W z.words) s w) (load w s ∷ []) g z.log v a
-      → Stored W w d v z z' b → c ≡ joined a b → Ran W (moving d s) (load w s ∷ store w d ∷ []) (beside z.words g) z' c
+      → Stored W w d v z z' b → c ≡ joined a b → Ran W (moving d s) (load w s ∷ store w d ∷ []) (lent z.words g) z' c
   unfolding perform
   ran_pair {s} p q r = record {
     size = q.size;
@@ -95,10 +95,11 @@ module _ {W w d v : ℕ} {z z' : Lent} {a : Work} where
           ∙ sym (read_le-byte (view W z.words) (view_lt W z.words) s w (x - d) (omega arith))
           ∙ ap (λ (y : ℕ). byte y (x - d)) (sym p.found)
 
-  pub ran_fill : (b₀ : ℕ) → b₀ < 256 → v ≡ read_le (λ x. b₀) 0 w → Stored W w d v z z' a
+  -- A store of the lowest w bytes of a number of n bytes, each of which is the fill byte.
+  pub ran_fill : (b₀ n : ℕ) → b₀ < 256 → w ≤ n → v ≡ read_le (λ x. b₀) 0 n → Stored W w d v z z' a
       → Ran W (filling b₀) (store w d ∷ []) z z' a
   unfolding perform
-  ran_fill b₀ l e q = record {
+  ran_fill b₀ n l k e q = record {
     size = q.size;
     performed = λ held h. over_cong d w (λ x. b₀) (laid v d) (view W z.words) same ∙ sym q.bytes;
     holding = λ held h. tt;
@@ -106,4 +107,4 @@ module _ {W w d v : ℕ} {z z' : Lent} {a : Work} where
   }
     where
       same : (x : ℕ) → d ≤ x → x < d + w → b₀ ≡ laid v d x
-      same x i m = sym (ap (λ (y : ℕ). byte y (x - d)) e ∙ read_le-byte (λ y. b₀) (λ y. l) 0 w (x - d) (omega arith))
+      same x i m = sym (ap (λ (y : ℕ). byte y (x - d)) e ∙ read_le-byte (λ y. b₀) (λ y. l) 0 n (x - d) (omega arith))

@@ -9,7 +9,7 @@ use lib.Dec.{eqb}
 use lib.ListN.{length}
 use borrow.Author.Tests.{lt-ltb, le-ltb, eq-eqb, ne_eqb}
 use Rattle.model.specs.Fit.{Range}
-use Rattle.model.specs.Lists.{cursor, past, threshold, head, along, upward, move_list, fill_list}
+use Rattle.model.specs.Lists.{cursor, past, threshold, head, along, fill_list}
 use Rattle.lists.specs.Sizes.{Core, ones, word_accesses, run_accesses, accesses, fill_accesses}
 use Rattle.lists.proofs.Lengths.{along-length, fill_length}
 
@@ -53,11 +53,6 @@ module _ {W : ℕ} (core : Core W) (up : Bool) (dest src n : ℕ) where
       2 * h + word_accesses W (past up (cursor up src n) h % W) ((n - h) / W) + 2 * ((n - h) % W) ≡ length (along up W dest src n)
   unfolding accesses run_accesses
   long_sum l = sym (along-length core up dest src n ∙ rw (le-ltb n (threshold W) l) refl)
-
--- In the direction of the move.
-pub move_sum : {m : ℕ} (W dest src n : ℕ) (up : Bool) → upward dest src n ≡ up → m ≡ length (along up W dest src n)
-    → m ≡ length (move_list W dest src n)
-move_sum W dest src n up e p = rw e p
 
 module _ (W s n : ℕ) where
   pub fill_short_sum : n < threshold W → n ≡ length (fill_list W s n)

@@ -7,8 +7,7 @@ use Prim.Native.Nat.{ℕ, ◌+◌, ◌-◌, ◌<◌, ◌≤◌}
 use native.Mathlib.Decide.{dec_lt, dec_le}
 use native.Mathlib.Omega.{arith}
 use lib.Dec.{leb, ltb}
-use borrow.Author.Tests.{lt-ltb, le-ltb, le-leb, lt-leb, ne_eqb}
-use Rattle.model.specs.Lists.{upward}
+use borrow.Author.Tests.{lt-ltb, le-ltb, le-leb, lt-leb}
 use Rattle.model.specs.Refusals.{overlap}
 
 -- A string's start lies outside where a range of one byte there does.
@@ -35,15 +34,3 @@ overlap_apart dest src n l = go (dec_lt dest (src + n))
     go : Dec (dest < src + n) → (ltb 0 n && ltb dest (src + n)) && ltb src (dest + n) ≡ false
     go (yes m) = rw (le-ltb src (dest + n) (omega arith)) (never (ltb 0 n && ltb dest (src + n)))
     go (no m) = rw (le-ltb dest (src + n) (omega arith), never (ltb 0 n)) refl
-
--- ---- the direction of a move: `delta >= n` of mod.rs
-
-pub upward_below : (dest src n : ℕ) → dest < src → true ≡ upward dest src n
-upward_below dest src n l = rw (lt-leb (src + n) dest (omega arith), lt-ltb dest src l) refl
-
-pub upward_clear : (dest src n : ℕ) → src + n ≤ dest → true ≡ upward dest src n
-upward_clear dest src n l = rw (le-leb (src + n) dest l) refl
-
-pub upward_not : (dest src n : ℕ) → src ≤ dest → dest < src + n → false ≡ upward dest src n
-upward_not dest src n l m =
-    rw (lt-leb (src + n) dest m, le-ltb dest src l, ne_eqb n 0 (λ e. absurd (omega arith))) refl

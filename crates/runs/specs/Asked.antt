@@ -26,3 +26,10 @@ pub record Across (up : Bool) (W k d b o n : ℕ) : Type 0 where
   pub word : b % W ≡ 0
   pub some : 0 < o
   pub less : o < W
+
+-- They are chunks of w bytes each, which divide the word, and both cursors stand at boundaries of a chunk.
+pub record Chunks (up : Bool) (W w k d s n : ℕ) : Type 0 where
+  pub both : Both up W k d s n
+  pub divides : W % w ≡ 0
+  pub dest : d % w ≡ 0
+  pub src : s % w ≡ 0

@@ -1,6 +1,6 @@
 pub mod Writing
 pub mod TextLengths
 pub mod NumberLaws
-pub mod CountLaws
 pub mod LogLaws
+pub mod CountLaws
 pub mod Counted

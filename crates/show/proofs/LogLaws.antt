@@ -1,45 +1,30 @@
--- A log as a loop writes it: what is written after i of its numbers grows by one (`list_next`). Of the counts, no sum of the first i passes
--- that of all (`sum_next`, `sum_within`).
+-- Numbers that a loop writes one behind the other, each as f says: what is written after i of them grows by one (`wrote_next`), and how long it
+-- is at most (`each_few`). So a log is written (`list_is`).
 -- Assumes nothing.
-use mathlib.Core.Path.{◌≡◌, refl, sym, ap}
-use mathlib.Core.Bool.{Bool, true, false}
-use mathlib.Core.List.{List, [], ◌∷◌, ◌++◌, append_assoc, append-nil}
-use Prim.Native.Nat.{ℕ, zero, suc, ◌+◌, ◌<◌, ◌≤◌}
-use native.Mathlib.Numerals.{add-one}
-use native.Mathlib.Omega.{arith}
-use lib.Dec.{leb}
-use lib.ListN.{length, get_or, take}
-use lib.Seq.{take-suc}
-use borrow.Author.Tests.{leb-true, leb-false}
+use Rattle.std.proofs.Common.{◌≡◌, refl, List, [], ◌∷◌, ◌++◌, append_assoc, append-nil, ℕ, zero, suc, ◌+◌, ◌*◌, ◌<◌, ◌≤◌, arith, length, get_or, take, length-append}
+use Rattle.std.specs.Prelude.{flat_map}
+use Rattle.std.proofs.lemmas.List.{take_more}
+use Rattle.std.proofs.lemmas.Grind.{flat_map-append}
+use Rattle.show.specs.declared.Out.{Out}
 use Rattle.show.specs.Written.{Wrote}
-use Rattle.show.specs.LoggedText.{sum_of, spaced, list_text}
+use Rattle.show.specs.LoggedText.{spaced, list_text}
 use Rattle.show.proofs.Writing.{wrote_then, wrote_as}
 
-pub sum_next : (ns : List ℕ) (i : ℕ) → sum_of ns (i + 1) ≡ sum_of ns i + get_or ns i 0
-unfolding sum_of
-sum_next ns i = rw (add-one i)
+pub wrote_next : (f : ℕ → List ℕ) (ns xs : List ℕ) (i : ℕ) {old mid new : Out} → i < length ns
+    → Wrote (xs ++ flat_map f (take i ns)) old mid → Wrote (f (get_or ns i 0)) mid new → Wrote (xs ++ flat_map f (take (i + 1) ns)) old new
+wrote_next f ns xs i below w v =
+    let same : (xs ++ flat_map f (take i ns)) ++ f (get_or ns i 0) ≡ xs ++ flat_map f (take (i + 1) ns) =
+    rw (take_more ns i 0 below) (simp (flat_map-append, append_assoc, append-nil)) in
+    wrote_as same (wrote_then w v)
 
-pub sum_within : (ns : List ℕ) (i k : ℕ) → i ≤ k → sum_of ns i ≤ sum_of ns k
-unfolding sum_of
-sum_within ns i zero l = let none : i ≡ 0 = omega arith in rw none (omega arith)
-sum_within ns i (suc k) l = go (leb i k) refl (sum_within ns i k) refl
-  where
-    go : (b : Bool) → leb i k ≡ b → (i ≤ k → sum_of ns i ≤ sum_of ns k) → sum_of ns (suc k) ≡ sum_of ns k + get_or ns k 0
-        → sum_of ns i ≤ sum_of ns k + get_or ns k 0
-    go true below less one = omega (arith, less (leb-true i k below))
-    go false above less one =
-        let last : i ≡ suc k = omega (arith, leb-false i k above) in
-        omega (arith, ap (sum_of ns) last)
+pub each_few : (f : ℕ → List ℕ) (most : ℕ) (ns : List ℕ) → ((j : ℕ) → length (f (get_or ns j 0)) ≤ most) → (i : ℕ)
+    → length (flat_map f (take i ns)) ≤ i * most
+each_few f most [] few zero = omega arith
+each_few f most [] few (suc i) = omega arith
+each_few f most (n ∷ ns) few zero = omega arith
+each_few f most (n ∷ ns) few (suc i) = simp length-append (omega (arith, few 0, each_few f most ns (λ j. few (suc j)) i))
 
-list_append : (xs ys : List ℕ) → list_text (xs ++ ys) ≡ list_text xs ++ list_text ys
+pub list_is : (ns : List ℕ) → list_text ns ≡ flat_map spaced ns
 unfolding list_text
-list_append [] ys = refl
-list_append (x ∷ xs) ys = rw (list_append xs ys) (sym (append_assoc (spaced x) (list_text xs) (list_text ys)))
-
-pub list_next : (ns : List ℕ) (i : ℕ) {at past end : ℕ} {old mid new : List ℕ} → i < length ns
-    → Wrote (list_text (take i ns)) at old mid past → Wrote (spaced (get_or ns i 0)) past mid new end
-    → Wrote (list_text (take (i + 1) ns)) at old new end
-unfolding list_text
-list_next ns i below w v =
-    rw (add-one i, take-suc ns i 0 below, list_append (take i ns) (get_or ns i 0 ∷ []))
-    (wrote_then w (wrote_as (sym (append-nil (spaced (get_or ns i 0)))) v))
+list_is [] = refl
+list_is (n ∷ ns) = rw (list_is ns)

@@ -1,11 +1,9 @@
 -- An answer as a line of text: `address A loads a/b/c/d stores e/f/g/h`, and so `number Z`, `length L`, `refusal R`.
 -- Assumes nothing.
-use Rattle.std.specs.Prelude.{◌≡◌, List, ◌++◌, ℕ, ◌+◌, ◌≤◌, length, get_or}
+use Rattle.std.specs.Prelude.{List, ◌++◌, ℕ, ◌+◌, get_or}
 use Rattle.model.specs.Answers.{Said, an_address, a_number, a_length, a_refusal, Reply}
 use Rattle.texts.specs.Codes.{codes}
-use Rattle.texts.specs.Texts.{text_at}
 use Rattle.show.specs.Numbers.{decimal, signed}
-use Rattle.show.specs.Sizes.{most_word}
 
 unfoldable pub said_text : Said → List ℕ
 said_text (an_address a) = codes "address " ++ decimal a
@@ -34,12 +32,3 @@ reply_text r = said_text r.said ++ (loads_text r.counts ++ stores_text r.counts)
 -- The line, with the newline that ends it.
 unfoldable pub answer_text : Reply → List ℕ
 answer_text r = reply_text r ++ codes "\n"
-
--- The words that stand before an outcome's number. The sign of a number below 0 goes with its word.
-abbrev pub outcome_words : List ℕ
-outcome_words = codes "address ;number ;length ;refusal ;number -;"
-
--- An outcome's text in two parts: one of these words, by its number, and the digits of a number.
-pub record Parted (said : Said) (word number : ℕ) : Type 0 where
-  pub text : text_at outcome_words word ++ decimal number ≡ said_text said
-  pub short : length (text_at outcome_words word) ≤ most_word

@@ -1,73 +1,55 @@
-// Texts and numbers, written into a buffer that is lent.
+// Texts and numbers, written behind what stands in the buffer.
 ghost use Rattle.std.specs.Prelude.{◌≡◌, ◌++◌, ◌+◌, ◌<◌, length};
 ghost use Rattle.io.specs.Digits.{hex_digit_ascii};
 ghost use Rattle.show.specs.Written.{Room, Wrote};
 ghost use Rattle.show.specs.Numbers.{decimal, hex_byte};
-ghost use Rattle.show.specs.LoggedText.{spaced};
-ghost use Rattle.show.specs.Sizes.{most_number, most_spaced};
 
-// The text as it stands.
-pub fn write_text(out: &mut [u8], at: usize, text: &[u8]) -> usize
-    requires { Room (length text.now) at out.old }
-    ensures { Wrote text.now at out.old out.new result }
-{
-    let mut i = 0;
-    while i < text.len() {
-        out[at + i] = text[i];
-        i += 1;
+use crate::Out;
+
+// Stays: not by std's `write!`: its `fmt::Write` may answer an Err, and says nothing of the buffer then, while `Wrote` always holds.
+#[tactic(auto, using(crate::proofs::TextLengths::rooms))]
+impl Out<'_> {
+    // The text as it stands.
+    pub fn write_text(&mut self, text: &[u8])
+        requires { Room (length text.now) self.old }
+        ensures { Wrote text.now self.old self.new }
+    {
+        let end = self.end + text.len();
+        self.bytes[self.end..end].copy_from_slice(text);
+        self.end = end;
     }
-    at + i
-}
 
-// A number that there is just room for.
-fn write_digits(out: &mut [u8], at: usize, n: u64) -> usize
-    requires { Room (length (decimal n)) at out.old }
-    ensures { Wrote (decimal n) at out.old out.new result }
-{
-    let mut digits = [0u8; 20];
-    let k = io::decimal(n, &mut digits);
-    write_text(out, at, &digits[..k])
-}
+    // A number's digits.
+    pub fn write_decimal(&mut self, n: u64)
+        requires { Room (length (decimal n)) self.old }
+        ensures { Wrote (decimal n) self.old self.new }
+    {
+        let mut digits = [0; 20];
+        let k = io::decimal(n, &mut digits);
+        self.write_text(&digits[..k]);
+    }
 
-// Any number.
-pub fn write_decimal(out: &mut [u8], at: usize, n: u64) -> usize
-    requires { Room most_number at out.old }
-    ensures { Wrote (decimal n) at out.old out.new result }
-{
-    write_digits(out, at, n)
-}
+    // A word, and a number behind it.
+    pub(crate) fn write_worded(&mut self, word: &[u8], number: u64)
+        requires { Room (length (word.now ++ decimal number)) self.old }
+        ensures { Wrote (word.now ++ decimal number) self.old self.new }
+    {
+        self.write_text(word);
+        self.write_decimal(number);
+    }
 
-// A number of 32 bits after a space. It has few digits, so that little room is wanted.
-pub fn write_spaced(out: &mut [u8], at: usize, n: u32) -> usize
-    requires { Room most_spaced at out.old }
-    ensures { Wrote (spaced n) at out.old out.new result }
-{
-    out[at] = b' ';
-    write_digits(out, at + 1, n as u64)
-}
-
-// A word, and a number behind it.
-pub fn write_worded(out: &mut [u8], at: usize, word: &[u8], number: u64) -> usize
-    requires { Room (length word.now + most_number) at out.old }
-    ensures { Wrote (word.now ++ decimal number) at out.old out.new result }
-{
-    let past = write_text(out, at, word);
-    write_decimal(out, past, number)
+    // A byte as two hexadecimal digits.
+    pub fn write_byte(&mut self, byte: u8)
+        requires { Room 2 self.old }
+        ensures { Wrote (hex_byte byte) self.old self.new }
+    {
+        self.write_text(&[hex_digit(byte / 16), hex_digit(byte % 16)]);
+    }
 }
 
 fn hex_digit(digit: u8) -> u8
     requires { digit < 16 }
     ensures { result ≡ hex_digit_ascii digit }
 {
-    if digit < 10 { 48 + digit } else { 87 + digit }
-}
-
-// A byte as two hexadecimal digits.
-pub fn write_byte(out: &mut [u8], at: usize, byte: u8) -> usize
-    requires { Room 2 at out.old }
-    ensures { Wrote (hex_byte byte) at out.old out.new result }
-{
-    out[at] = hex_digit(byte / 16);
-    out[at + 1] = hex_digit(byte % 16);
-    at + 2
+    char::from_digit(u32::from(digit), 16).unwrap() as u8
 }

@@ -2,4 +2,3 @@ pub mod Fronts
 pub mod TextLaws
 pub mod DigitLaws
 pub mod NumberLaws
-pub mod Signs

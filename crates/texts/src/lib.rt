@@ -1,4 +1,4 @@
-// Texts: whether this is that one, a text by its number in a table, and what number a text is.
+// Texts: a text by its number in a table, and what number a text is.
 #![tactic(auto)]
 
 mod digits;
@@ -6,5 +6,5 @@ mod numbers;
 mod tables;
 
 pub use digits::{all_digits, digit_value};
-pub use numbers::{Number, Value, number_of, value_of};
-pub use tables::{is_text, number_in, starts_with, text_at};
+pub use numbers::{number_of, value_of};
+pub use tables::{number_in, text_at};

@@ -1,85 +1,54 @@
 // Numbers from text.
-ghost use Rattle.std.specs.Prelude.{◌≡◌, ◌^◌, ◌<◌, ◌≤◌, pos};
-ghost use Rattle.texts.specs.Numbers.{Base, digits_in, number_of, opposite, value_of};
+ghost use Rattle.std.specs.Prelude.{◌≡◌, ◌≤◌, IfSome};
+ghost use Rattle.texts.specs.Numbers.{Base, digits_in, number_of, value_of};
 
 use crate::digits::digit;
-use crate::tables::starts_with;
-
-#[derive(Clone, Copy)]
-pub enum Number {
-    Of(usize),
-    None,
-}
 
 // The number that digits make in a base, where it is at most `most`.
-fn digits(s: &[u8], base: usize, most: usize) -> Number
+// Stays: std's `from_str_radix` takes a sign before the digits, also a `+`, which `read_on` takes for no digit.
+#[tactic(auto, using(crate::proofs::NumberLaws::digit_rules))]
+fn digits(s: &[u8], base: usize, most: usize) -> Option<usize>
     requires { Base base most }
-    ensures { result ≡ digits_in base most s.now }
+    ensures value { result ≡ digits_in base most s.now }
+    ensures within { IfSome result (λ n. n ≤ most) }
 {
-    if s.len() == 0 {
-        return Number::None;
+    if s.is_empty() {
+        return None;
     }
     let mut value = 0;
-    let mut i = 0;
-    while i < s.len() {
-        let next = digit(s[i]) as usize;
+    for &byte in s {
+        let next = usize::from(digit(byte)?);
         if next >= base {
-            return Number::None;
+            return None;
         }
         // value * base + next > most, with nothing that can wrap.
         if value > (most - next) / base {
-            return Number::None;
+            return None;
         }
         value = value * base + next;
-        i += 1;
     }
-    Number::Of(value)
+    Some(value)
 }
 
 // A number of 64 bits: decimal digits, or 0x and hexadecimal ones.
-pub fn number_of(s: &[u8]) -> Number
+#[tactic(auto, using(crate::proofs::Fronts::starts_prefix), unfolding(crate::specs::Numbers::number_of))]
+pub fn number_of(s: &[u8]) -> Option<usize>
     ensures { result ≡ number_of s.now }
 {
-    if starts_with(s, b"0x") {
-        return digits(&s[2..], 16, usize::MAX);
+    match s.strip_prefix(b"0x") {
+        Some(hex) => digits(hex, 16, usize::MAX),
+        None => digits(s, 10, usize::MAX),
     }
-    digits(s, 10, usize::MAX)
-}
-
-#[derive(Clone, Copy)]
-pub enum Value {
-    Of(i32),
-    None,
-}
-
-fn positive(n: usize) -> i32
-    requires { n < 2 ^ 31 }
-    ensures { result ≡ pos n }
-{
-    n as i32
-}
-
-fn negative(n: usize) -> i32
-    requires { n ≤ 2 ^ 31 }
-    ensures { result ≡ opposite n }
-{
-    // In 64 bits, since the least i32 has no opposite in 32.
-    let wide = n as i64;
-    (-wide) as i32
 }
 
 // A decimal number of 32 bits with a sign.
-pub fn value_of(s: &[u8]) -> Value
+#[tactic(auto, using(std::proofs::lemmas::Int::ints, crate::proofs::Fronts::starts_prefix), unfolding(crate::specs::Numbers::value_of))]
+pub fn value_of(s: &[u8]) -> Option<i32>
     ensures { result ≡ value_of s.now }
 {
-    if starts_with(s, b"-") {
-        return match digits(&s[1..], 10, 2147483648) {
-            Number::Of(n) => Value::Of(negative(n)),
-            Number::None => Value::None,
-        };
-    }
-    match digits(s, 10, 2147483647) {
-        Number::Of(n) => Value::Of(positive(n)),
-        Number::None => Value::None,
+    match s.strip_prefix(b"-") {
+        // In 64 bits, since the least i32 has no opposite in 32.
+        Some(below) => digits(below, 10, 2147483648).map(|n| -(n as i64) as i32),
+        None => digits(s, 10, 2147483647).map(|n| n as i32),
     }
 }

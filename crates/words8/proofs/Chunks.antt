@@ -16,7 +16,7 @@ use Rattle.model.specs.Fit.{Fit}
 use Rattle.model.specs.Lists.{made, chunks}
 use Rattle.model.specs.Memory.{read_le, view}
 use Rattle.runs.specs.Ran.{Found}
-use Rattle.model.specs.Log.{Log}
+use Rattle.model.specs.declared.Log.{Log}
 use Rattle.model.specs.Tally.{tally, joined}
 use Rattle.model.proofs.MemoryLaws.{view_lt}
 use Rattle.model.proofs.LogLaws.{recorded_none, recorded_then}

@@ -5,8 +5,9 @@ use Rattle.model.specs.Access.{Access, load}
 use Rattle.model.specs.Fit.{Fit, Range}
 use Rattle.model.specs.Lists.{made}
 use Rattle.model.specs.Memory.{read_le, view}
-use Rattle.model.specs.Log.{Log, Recorded}
+use Rattle.model.specs.Log.{Recorded}
 use Rattle.words8.specs.Word.{W}
+use Rattle.model.specs.declared.Log.{Log}
 use Rattle.words8.specs.declared.partial.Loading.{Loading}
 
 -- m bytes, fewer than a word, from byte `first` of the word at addr on. They lie inside k words.

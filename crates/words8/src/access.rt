@@ -4,46 +4,31 @@ ghost use Rattle.std.specs.Prelude.{[], ◌∷◌, length};
 ghost use Rattle.model.specs.Access.{load, store};
 ghost use Rattle.model.specs.Fit.{Fit};
 ghost use Rattle.model.specs.Memory.{read_le, view};
-ghost use Rattle.model.specs.Log.{log_of};
 ghost use Rattle.runs.specs.Ran.{lent, Found, Stored};
 ghost use Rattle.words8.specs.Word.{W};
 
 use crate::bytes::{part, with_part};
 use crate::{WORD_SIZE, Word};
-use model::{Work, load_of, store_of};
-
-// A number that was loaded, and the record of the loads.
-#[derive(Clone, Copy)]
-pub struct Loaded {
-    pub value: Word,
-    pub work: Work,
-}
+use model::{Counted, Log, Work};
 
 // Loads `width` bytes, as a number.
-pub fn load(mem: &[Word], log: &mut [u32], place: &mut usize, at: usize, width: usize) -> Loaded
+pub fn load(mem: &[Word], log: &mut Log, at: usize, width: usize) -> Counted<Word>
     requires { Fit W (length mem.now) width at }
     ensures { Found (read_le (view W mem.now) at width) (load width at ∷ [])
-        (log_of log.old place.old) (log_of log.new place.new) result.value result.work }
+        log.old log.new result.value result.work }
 {
     let value = part(mem[at / WORD_SIZE], at % WORD_SIZE, width);
-    let work = load_of(log, place, at, width);
-    Loaded { value, work }
+    let work = log.load_of(at, width);
+    Counted { value, work }
 }
 
 // Stores the lowest `width` bytes of `value`. The word's other bytes are put back as they were: that is no load, since an access is
 // what the record says, and the machine's own way to change a part of a word is not spoken of.
-pub fn store(
-    mem: &mut [Word],
-    log: &mut [u32],
-    place: &mut usize,
-    at: usize,
-    width: usize,
-    value: Word,
-) -> Work
+pub fn store(mem: &mut [Word], log: &mut Log, at: usize, width: usize, value: Word) -> Work
     requires { Fit W (length mem.old) width at }
-    ensures { Stored W width at value (lent mem.old log.old place.old)
-        (lent mem.new log.new place.new) result }
+    ensures { Stored W width at value (lent mem.old log.old)
+        (lent mem.new log.new) result }
 {
     mem[at / WORD_SIZE] = with_part(mem[at / WORD_SIZE], at % WORD_SIZE, width, value);
-    store_of(log, place, at, width)
+    log.store_of(at, width)
 }

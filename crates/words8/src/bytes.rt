@@ -47,6 +47,7 @@ pub fn broadcast(c: u8) -> Word
 {
     let word_bits = bits(WORD_SIZE);
     let mut broadcast = c as Word;
+    // Stays: the bits double from turn to turn, which no range does (`broadcast_leaves_a_gap`).
     let mut bits: Word = 8;
     while bits < word_bits {
         broadcast |= broadcast << bits;

@@ -14,3 +14,8 @@ pub const WORD_SIZE: usize = 8;
 // * We need at least two words of bytes to guarantee that at least one word is copied as a word.
 // * On words of 4 bytes, so many more are needed to outweigh the checks.
 pub const WORD_COPY_THRESHOLD: usize = 16;
+
+// The directions of a copy: upward from the first addresses, or downward from the ends.
+pub const FORWARD: bool = true;
+
+pub const BACKWARD: bool = false;

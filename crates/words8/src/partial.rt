@@ -1,16 +1,15 @@
 // Partial loads: fewer bytes than a word, at one end of a word, by aligned accesses that touch no other byte of it.
 ghost use Rattle.std.specs.Prelude.{◌+◌, ◌*◌, ◌-◌, ◌^◌, length};
 ghost use Rattle.model.specs.Lists.{front_partial, end_partial};
-ghost use Rattle.model.specs.Log.{log_of};
 ghost use Rattle.model.specs.Memory.{read_le, view};
 ghost use Rattle.runs.specs.Ran.{Found};
 ghost use Rattle.words8.specs.Word.{W};
 ghost use Rattle.words8.specs.Partials.{ChunkAsked, ChunkDone, PartOf};
 
-use crate::access::{Loaded, load};
+use crate::access::load;
 use crate::bytes::bits;
 use crate::{WORD_SIZE, Word};
-use model::{Work, join, zero};
+use model::{Counted, Log, Work, join, zero};
 
 // A partial load under way: the bytes loaded so far, how many they are, and the record of their loads.
 #[derive(Clone, Copy)]
@@ -24,23 +23,22 @@ pub struct Loading {
 // exceed `load_sz`: if `load_sz` has that binary digit. The address must then be a multiple of `chunk_sz`, and the offset advances.
 pub fn load_chunk_aligned(
     mem: &[Word],
-    log: &mut [u32],
-    place: &mut usize,
+    log: &mut Log,
     chunk_sz: usize,
     src: usize,
     dst: usize,
     load_sz: usize,
     part: Loading,
 ) -> Loading
-    requires { ChunkAsked mem.now chunk_sz src dst load_sz (log_of log.old place.old) part }
+    requires { ChunkAsked mem.now chunk_sz src dst load_sz log.old part }
     ensures { ChunkDone (view W mem.now) chunk_sz src dst load_sz
-        (log_of log.old place.old) (log_of log.new place.new) part result }
+        log.old log.new part result }
 {
     if load_sz & chunk_sz == 0 {
         return part;
     }
     let offset = part.offset;
-    let chunk = load(mem, log, place, src + offset, chunk_sz);
+    let chunk = load(mem, log, src + offset, chunk_sz);
     let value = chunk.value;
     let placed = value << bits(dst + offset);
     let next = offset + chunk_sz;
@@ -53,20 +51,20 @@ pub fn load_chunk_aligned(
     }
 }
 
+// Stays: two functions, as in impls.rs: the order of the widths is what keeps every access aligned (`end_partial_widest_first`).
 // Loads the first `load_sz` bytes of the word at `src`, fewer than a word. Acts as if the whole word was loaded, its other bytes
 // being 0.
 pub fn load_aligned_partial(
     mem: &[Word],
-    log: &mut [u32],
-    place: &mut usize,
+    log: &mut Log,
     src: usize,
     load_sz: usize,
-) -> Loaded
+) -> Counted<Word>
     requires { PartOf (length mem.now) src 0 load_sz }
     ensures { Found
         (read_le (view W mem.now) src load_sz)
         (front_partial src load_sz)
-        (log_of log.old place.old) (log_of log.new place.new) result.value result.work }
+        log.old log.new result.value result.work }
 {
     let mut part = Loading {
         out: 0,
@@ -74,28 +72,27 @@ pub fn load_aligned_partial(
         work: zero(),
     };
     // We load in decreasing order, so the addresses remain sufficiently aligned for the next step.
-    part = load_chunk_aligned(mem, log, place, 4, src, 0, load_sz, part);
-    part = load_chunk_aligned(mem, log, place, 2, src, 0, load_sz, part);
-    part = load_chunk_aligned(mem, log, place, 1, src, 0, load_sz, part);
+    part = load_chunk_aligned(mem, log, 4, src, 0, load_sz, part);
+    part = load_chunk_aligned(mem, log, 2, src, 0, load_sz, part);
+    part = load_chunk_aligned(mem, log, 1, src, 0, load_sz, part);
     let value = part.out;
     let work = part.work;
-    Loaded { value, work }
+    Counted { value, work }
 }
 
 // Loads the last `load_sz` bytes of the word at `src`, fewer than a word. Acts as if the whole word was loaded, its other bytes
 // being 0: what is loaded stands at the end of the result.
 pub fn load_aligned_end_partial(
     mem: &[Word],
-    log: &mut [u32],
-    place: &mut usize,
+    log: &mut Log,
     src: usize,
     load_sz: usize,
-) -> Loaded
+) -> Counted<Word>
     requires { PartOf (length mem.now) src (W - load_sz) load_sz }
     ensures { Found
         (read_le (view W mem.now) (src + (W - load_sz)) load_sz * 256 ^ (W - load_sz))
         (end_partial (src + (W - load_sz)) load_sz)
-        (log_of log.old place.old) (log_of log.new place.new) result.value result.work }
+        log.old log.new result.value result.work }
 {
     let mut part = Loading {
         out: 0,
@@ -105,10 +102,10 @@ pub fn load_aligned_end_partial(
     let dst = WORD_SIZE - load_sz;
     let src_shifted = src + dst;
     // We load in increasing order, so by the time we reach 2 bytes things are 2-aligned, and so on.
-    part = load_chunk_aligned(mem, log, place, 1, src_shifted, dst, load_sz, part);
-    part = load_chunk_aligned(mem, log, place, 2, src_shifted, dst, load_sz, part);
-    part = load_chunk_aligned(mem, log, place, 4, src_shifted, dst, load_sz, part);
+    part = load_chunk_aligned(mem, log, 1, src_shifted, dst, load_sz, part);
+    part = load_chunk_aligned(mem, log, 2, src_shifted, dst, load_sz, part);
+    part = load_chunk_aligned(mem, log, 4, src_shifted, dst, load_sz, part);
     let value = part.out;
     let work = part.work;
-    Loaded { value, work }
+    Counted { value, work }
 }

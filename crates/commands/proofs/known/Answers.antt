@@ -1,28 +1,19 @@
 -- `commands::known` reads the fields of a row, and says what the row says. Assumes nothing.
-use mathlib.Core.Path.{refl, ap}
-use Rattle.commands.specs.declared.Found.{Found}
-use Rattle.commands.specs.Tables.{reported}
-use Rattle.commands.proofs.Tables.{kinds_few, row-good, row_wrong}
+use Rattle.std.proofs.Common.{◌∙◌}
+use Rattle.std.proofs.lemmas.Result.{err_from_is_err_and}
+use Rattle.commands.specs.Commands.{made}
+use Rattle.commands.proofs.Tables.{kinds_few, row_read}
 use Rattle.commands.proofs.known.Goals as goal
 
 pub read_fields-requires : goal.read_fields-requires
-read_fields-requires c = (
-  rw c.text_at-kinds.ensures (kinds_few _ c.requires.0),
-  refl,
-)
+read_fields-requires c = rw c.text_at-kinds.ensures (kinds_few _ c.requires.0)
 
-pub returns-in-Good : goal.returns-in-Good
-returns-in-Good c =
-    row-good _ _ _ _ _ c.requires.0
-    c.requires.1
-    c.text_at-kinds.ensures _
-    c.read_fields.ensures _ _
-    (ap (λ (f : Found). reported f c.read_fields.new.numbers) c.in-Good.is)
-    c.say.ensures
+pub returns-in_err-numbers : goal.returns-in_err-numbers
+unfolding made
+returns-in_err-numbers c =
+    let why = err_from_is_err_and c.from_residual.result c.from_residual.ensures.1 in
+    rw (why.1, why.2) (row_read _ _ _ _ _ _ c.requires.0 c.requires.1 c.text_at-kinds.ensures c.in_err-numbers.ensures)
 
-pub returns-in-Wrong : goal.returns-in-Wrong
-returns-in-Wrong c =
-    row_wrong _ _ _ _ _ c.requires.0
-    c.requires.1
-    c.text_at-kinds.ensures _ c.read_fields.ensures _
-    (ap (λ (f : Found). reported f c.read_fields.new.numbers) c.in-Wrong.is)
+pub returns : goal.returns
+unfolding made
+returns c = c.say.ensures ∙ row_read _ _ _ _ _ _ c.requires.0 c.requires.1 c.text_at-kinds.ensures c.in_ok-numbers.ensures

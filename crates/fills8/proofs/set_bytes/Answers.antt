@@ -6,43 +6,28 @@ use mathlib.Core.Bool.{true}
 use native.Mathlib.Omega.{arith}
 use Rattle.words8.specs.Word.{W}
 use Rattle.runs.proofs.Phases.{parts, FillBegun, fill_short, fill_long, fill_phases_joinable, fill_done, fill_joinable}
+use Rattle.runs.proofs.Turns.{byte_each}
 use Rattle.words8.proofs.WordSize.{core}
 use Rattle.runs.specs.Ran.{lent}
-use Rattle.model.proofs.LogLaws.{recorded_room}
 use Rattle.fills8.proofs.set_bytes.Goals as goal
 use Rattle.fills8.proofs.set_bytes.Goals.{Joined-n-ge-WORD_COPY_THRESHOLD, then-n-ge-WORD_COPY_THRESHOLD, else-n-ge-WORD_COPY_THRESHOLD}
 
-begun : (c : Joined-n-ge-WORD_COPY_THRESHOLD) → FillBegun W c.args.c c.args.s c.args.n c.if-n-ge-WORD_COPY_THRESHOLD.s c.if-n-ge-WORD_COPY_THRESHOLD.n (lent c.args.mem.now c.args.log.now c.args.place.now) (lent c.if-n-ge-WORD_COPY_THRESHOLD.mem c.if-n-ge-WORD_COPY_THRESHOLD.log c.if-n-ge-WORD_COPY_THRESHOLD.place) c.if-n-ge-WORD_COPY_THRESHOLD.work
+begun : (c : Joined-n-ge-WORD_COPY_THRESHOLD) → FillBegun W c.args.c c.args.s c.args.n c.if-n-ge-WORD_COPY_THRESHOLD.s c.if-n-ge-WORD_COPY_THRESHOLD.n (lent c.args.mem.now c.args.log.now) (lent c.if-n-ge-WORD_COPY_THRESHOLD.mem c.if-n-ge-WORD_COPY_THRESHOLD.log) c.if-n-ge-WORD_COPY_THRESHOLD.work
 begun c =
     elim c.if-n-ge-WORD_COPY_THRESHOLD.branch [
-      | then-n-ge-WORD_COPY_THRESHOLD w ↦ rw (w.mem-is, w.log-is, w.place-is, w.s-is, w.n-is, w.work-is)
-          (fill_long (parts core true _ _ (omega arith)) c.requires refl refl w.set_bytes_bytes-head.ensures w.set_bytes_words-words.ensures w.join-work.ensures)
-      | else-n-ge-WORD_COPY_THRESHOLD w ↦ rw (w.mem-is, w.log-is, w.place-is, w.s-is, w.n-is, w.work-is) (fill_short (omega arith) c.requires c.zero-work.ensures)
+      | then-n-ge-WORD_COPY_THRESHOLD w ↦ rw (w.mem-is, w.log-is, w.s-is, w.n-is, w.work-is)
+          (fill_long (parts core true _ _ (omega arith)) c.requires refl refl (byte_each _ _ w.set_chunks-head.ensures) w.set_chunks-words.ensures w.join-work.ensures)
+      | else-n-ge-WORD_COPY_THRESHOLD w ↦ rw (w.mem-is, w.log-is, w.s-is, w.n-is, w.work-is) (fill_short (omega arith) c.requires c.zero-work.ensures)
     ]
-
-pub set_bytes_words-words-requires : goal.set_bytes_words-words-requires
-set_bytes_words-words-requires c = (
-  rw c.set_bytes_bytes-head.ensures.size record { few = c.requires.few; inside = omega (arith, c.requires.inside) },
-  (omega arith, omega arith),
-)
 
 pub join-work-requires : goal.join-work-requires
 join-work-requires c =
     fill_phases_joinable core _ (parts core true _ _ (omega arith)) (omega (arith, c.requires.few, c.requires.inside))
-    c.set_bytes_bytes-head.ensures.recorded.counted c.set_bytes_words-words.ensures.recorded.counted
-
-pub set_bytes_bytes-tail-requires : goal.set_bytes_bytes-tail-requires
-set_bytes_bytes-tail-requires c = (begun (goal.at.set_bytes_bytes-tail-requires c).Joined-n-ge-WORD_COPY_THRESHOLD).ahead
+    (byte_each _ _ c.set_chunks-head.ensures).recorded.counted c.set_chunks-words.ensures.recorded.counted
 
 pub join-requires : goal.join-requires
 join-requires c =
-    fill_joinable core (begun (goal.at.join-requires c).Joined-n-ge-WORD_COPY_THRESHOLD) c.set_bytes_bytes-tail.ensures.recorded.counted (omega (arith, c.requires.few, c.requires.inside))
+    fill_joinable core (begun (goal.at.join-requires c).Joined-n-ge-WORD_COPY_THRESHOLD) (byte_each _ _ c.set_chunks-tail.ensures).recorded.counted (omega (arith, c.requires.few, c.requires.inside))
 
 pub returns : goal.returns
-returns c = fill_done (begun (goal.at.returns c).Joined-n-ge-WORD_COPY_THRESHOLD) c.set_bytes_bytes-tail.ensures c.join.ensures
-
-pub shape_of-mem : goal.shape_of-mem
-shape_of-mem c = (returns c).size
-
-pub shape_of-log : goal.shape_of-log
-shape_of-log c = recorded_room (returns c).recorded
+returns c = fill_done (begun (goal.at.returns c).Joined-n-ge-WORD_COPY_THRESHOLD) (byte_each _ _ c.set_chunks-tail.ensures) c.join.ensures

@@ -12,11 +12,11 @@ use Rattle.words8.specs.Word.{W}
 use Rattle.runs.proofs.Kept.{ruled_by, compare_refused, compare_kept}
 use Rattle.mem8.proofs.memcmp.Goals as goal
 
-pub returns-in-Refuse : goal.returns-in-Refuse
-returns-in-Refuse c =
+pub returns-in-Err : goal.returns-in-Err
+returns-in-Err c =
     let start = c.args in
     compare_refused W start.s1 start.s2 start.n
-    (ruled_by c.check_ranges.ensures c.in-Refuse.is) c.refused.ensures
+    (ruled_by c.check_ranges.ensures c.in-Err.is) c.refused.ensures
 
 pub returns : goal.returns
 returns c =

@@ -8,11 +8,11 @@ use Rattle.runs.proofs.Kept.{ruled_by, move_refused, move_kept}
 use Rattle.words8.proofs.WordSize.{core}
 use Rattle.mem8.proofs.memmove.Goals as goal
 
-pub returns-in-Refuse : goal.returns-in-Refuse
-returns-in-Refuse c =
+pub returns-in-Err : goal.returns-in-Err
+returns-in-Err c =
     let start = c.args in
     move_refused W start.dest start.src start.n
-    (ruled_by c.check_ranges.ensures c.in-Refuse.is) c.refused.ensures
+    (ruled_by c.check_ranges.ensures c.in-Err.is) c.refused.ensures
 
 pub returns : goal.returns
 returns c =

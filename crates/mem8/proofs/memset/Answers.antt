@@ -19,11 +19,11 @@ ranged : (c : After-check_range) → ruling_of c.check_range.result ≡ ruled (f
 unfolding fill_table
 ranged c = c.check_range.ensures
 
-pub returns-in-Refuse : goal.returns-in-Refuse
-returns-in-Refuse c =
+pub returns-in-Err : goal.returns-in-Err
+returns-in-Err c =
     let start = c.args in
     fill_refused W start.s start.c start.n
-    (ruled_by (ranged (goal.at.returns-in-Refuse c).After-check_range) c.in-Refuse.is) c.refused.ensures
+    (ruled_by (ranged (goal.at.returns-in-Err c).After-check_range) c.in-Err.is) c.refused.ensures
 
 pub returns : goal.returns
 returns c =

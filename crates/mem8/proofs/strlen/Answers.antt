@@ -10,7 +10,7 @@ use Rattle.model.specs.Refusals.{ruled, to_end, zero_at, fill_table, start_table
 use Rattle.model.proofs.RefusalLaws.{string_accepted}
 use Rattle.words8.specs.Word.{W}
 use Rattle.runs.proofs.Kept.{ruled_by, start_range, string_refused_lem, string_kept}
-use Rattle.scans8.specs.declared.Scan.TheVariants.{Length, NoZero}
+use Rattle.std.specs.Prelude.{Some, None}
 use Rattle.scans8.specs.Scans.{scan_of}
 use Rattle.mem8.specs.Scanned.{scan_said}
 use Rattle.mem8.proofs.strlen.Goals as goal
@@ -20,7 +20,7 @@ use Rattle.mem8.proofs.strlen.Goals.{After-check_range}
 scan_said-scan_of : (z m : ℕ) → scan_said (scan_of z m) ≡ cond (ltb z m) (a_length z) (a_refusal 5)
 scan_said-scan_of z m = go (ltb z m)
   where
-    go : (b : Bool) → scan_said (cond b (Length z) NoZero) ≡ cond b (a_length z) (a_refusal 5)
+    go : (b : Bool) → scan_said (cond b (Some z) None) ≡ cond b (a_length z) (a_refusal 5)
     go true = refl
     go false = refl
 
@@ -29,9 +29,9 @@ started : (c : After-check_range) → ruling_of c.check_range.result ≡ ruled (
 unfolding fill_table
 started c = c.check_range.ensures ∙ start_range W (length c.args.mem.now) c.args.s
 
-pub returns-in-Refuse : goal.returns-in-Refuse
-returns-in-Refuse c =
-    string_refused_lem W c.args.s (ruled_by (started (goal.at.returns-in-Refuse c).After-check_range) c.in-Refuse.is)
+pub returns-in-Err : goal.returns-in-Err
+returns-in-Err c =
+    string_refused_lem W c.args.s (ruled_by (started (goal.at.returns-in-Err c).After-check_range) c.in-Err.is)
     c.refused.ensures
 
 pub returns : goal.returns

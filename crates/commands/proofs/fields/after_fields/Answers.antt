@@ -1,15 +1,11 @@
 -- `commands::fields::after_fields` passes over the first i fields.
--- Invariant: what comes after `left` fields of the rest is what is looked for. The measure is `left`. Assumes nothing.
-use mathlib.Core.Path.{refl, sym, ◌∙◌}
-use Rattle.commands.proofs.Reading.{after_none, after_next}
+-- Invariant: what comes after the fields that are still to pass is what is looked for. Assumes nothing.
+use Rattle.std.proofs.Common.{sym, ◌∙◌}
+use Rattle.commands.proofs.Reading.{after_next, after_none}
 use Rattle.commands.proofs.fields.after_fields.Goals as goal
 
-pub loop-left-init : goal.loop-left-init
-loop-left-init c = refl
-
-pub loop-left-preserved : goal.loop-left-preserved
-loop-left-preserved c =
-    c.loop-left.invariant ∙ after_next _ _ _ c.loop-left-test.true c.first_field-end.ensures.ends
+pub loop-preserved : goal.loop-preserved
+loop-preserved c = c.loop.invariant ∙ after_next _ _ _ _ c.loop-test.true c.first_field.ensures.ends
 
 pub returns : goal.returns
-returns c = after_none _ _ c.loop-left-test.false ∙ sym c.loop-left.invariant
+returns c = sym (c.loop.invariant ∙ after_none _ _ _ c.loop-test.false)

@@ -1,27 +1,15 @@
--- `commands::fields::count_front` counts the bytes in front that are of a kind.
--- Invariant: those before place i are, and those from there on are still to be counted. The measure is what is left. Assumes nothing.
-use mathlib.Core.Path.{◌∙◌, sym}
-use native.Mathlib.Omega.{arith}
-use Rattle.texts.proofs.Fronts.{front-more, front-stops, front_ends}
+-- `commands::fields::count_front` is the place of the first byte that does not pass, or the length. Assumes nothing.
+use Rattle.std.proofs.Common.{◌∙◌, ap, not, ℕ, Option, length, rules, tests}
+use Rattle.std.specs.Option.{unwrap_or}
+use Rattle.std.proofs.lemmas.Iterator.{YieldsList-from_slice}
+use Rattle.std.proofs.lemmas.Iterator.Search.{position_from_yields_List}
+use Rattle.commands.proofs.Reading.{front_placed}
 use Rattle.commands.proofs.fields.count_front.Goals as goal
 
-pub loop-i-init : goal.loop-i-init
-loop-i-init c = (omega arith, omega arith)
-
-pub loop-i-preserved : goal.loop-i-preserved
-loop-i-preserved c = (
-  omega arith,
-  front-more _ _ _ c.loop-i.invariant.1 c.loop-i-test.true
-      (sym c.is_of.ensures
-      ∙ c.if-is_of.true),
-)
-
-pub returns-else-is_of : goal.returns-else-is_of
-returns-else-is_of c = (
-  front-stops _ _ _ c.loop-i.invariant.1 c.loop-i-test.true
-      (sym c.is_of.ensures ∙ c.if-is_of.false),
-  omega arith,
-)
-
-pub returns : goal.returns
-returns c = (front_ends _ _ _ c.loop-i.invariant.1 c.loop-i-test.false, omega arith)
+pub returns-clause-value : goal.returns-clause-value
+returns-clause-value g c = λ passes tells.
+    let s = c.args.s.now in
+    let placed =
+    position_from_yields_List (λ (b : ℕ). not (passes b)) _ _ c.position.result c.position.ensures.ran
+    (YieldsList-from_slice s cc) (λ x b q k. search (rules, tests, tells)) in
+    c.unwrap_or.ensures ∙ ap (λ (r : Option ℕ). unwrap_or r (length s)) placed ∙ front_placed passes s

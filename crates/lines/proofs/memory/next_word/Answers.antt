@@ -1,5 +1,5 @@
 -- `lines::memory::next_word` makes a word of the next bytes of a text, the highest first.
--- Invariant: the word is that of the bytes from `left` on. The measure is `left`. Assumes nothing.
+-- Invariant: the word is that of the bytes from `left` on. Assumes nothing.
 use mathlib.Core.Path.{◌≡◌}
 use mathlib.Core.Bool.{true}
 use mathlib.Core.List.{List}
@@ -23,23 +23,8 @@ next hex i left v inside all few some is =
 pub loop-left-init : goal.loop-left-init
 loop-left-init c = word_none _ _
 
-pub overflow_add-at : goal.overflow_add-at
-overflow_add-at c = omega (arith, c.requires.0)
-
-pub overflow_mul-at : goal.overflow_mul-at
-overflow_mul-at c = omega (arith, c.requires.0)
-
 pub overflow_mul-word : goal.overflow_mul-word
 overflow_mul-word c = record { fits = word_room c.loop-left.invariant c.loop-left-test.true }
-
-pub bounds-hex-at : goal.bounds-hex-at
-bounds-hex-at c = omega (arith, c.requires.0)
-
-pub overflow_add-at-in-loop-left : goal.overflow_add-at-in-loop-left
-overflow_add-at-in-loop-left c = omega (arith, c.requires.0)
-
-pub bounds-hex-at-in-loop-left : goal.bounds-hex-at-in-loop-left
-bounds-hex-at-in-loop-left c = omega (arith, c.requires.0)
 
 pub two_digits-requires : goal.two_digits-requires
 two_digits-requires c =

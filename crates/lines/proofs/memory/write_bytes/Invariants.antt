@@ -1,6 +1,5 @@
 -- `lines::memory::write_bytes` writes the bytes from an address on.
--- Invariant: the digits of the first i bytes are written. The measure is what is left. Assumes nothing.
-use Prim.Native.Nat.{◌-◌, ◌≤◌}
+-- Invariant: the digits of the first i bytes are written. Assumes nothing.
 use Rattle.model.specs.Memory.{view}
 use Rattle.words8.specs.Word.{W}
 use Rattle.show.specs.Written.{Wrote}
@@ -8,7 +7,4 @@ use Rattle.lines.specs.Bytes.{hex_text}
 use Rattle.lines.proofs.memory.write_bytes.Given as goal
 
 abbrev pub invariant-loop-i : goal.invariant-loop-i
-invariant-loop-i l = (Wrote (hex_text (view W l.mem) l.address l.i) l.at l.initial.out l.out l.past) × (l.i ≤ l.count)
-
-abbrev pub decreases-loop-i : goal.decreases-loop-i
-decreases-loop-i l = l.count - l.i
+invariant-loop-i l = Wrote (hex_text (view W l.mem) l.address l.i) l.initial.out l.out

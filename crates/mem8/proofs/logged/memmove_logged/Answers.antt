@@ -1,15 +1,18 @@
 -- `mem8::logged::memmove_logged`: refused by its table, or its list is performed and written into the log (`move_log_kept`).
 -- Assumes nothing.
+use mathlib.Core.Path.{◌∙◌}
 use native.Mathlib.Omega.{arith}
 use lib.ListN.{length}
 use Rattle.model.proofs.RefusalLaws.{ranges-accepted, log_accepted}
+use Rattle.std.proofs.Common.{rules}
+use Rattle.model.proofs.LogLaws.{recorded_name}
 use Rattle.words8.specs.Word.{W}
 use Rattle.runs.proofs.Kept.{ruled_by, log_refused, move_log_kept}
 use Rattle.words8.proofs.WordSize.{core}
 use Rattle.mem8.proofs.logged.memmove_logged.Goals as goal
 
-pub returns-in-Refuse : goal.returns-in-Refuse
-returns-in-Refuse c = log_refused _ _ _ _ (ruled_by c.check_move_logged.ensures c.in-Refuse.is) c.refused.ensures
+pub returns-in-Err : goal.returns-in-Err
+returns-in-Err c = log_refused _ _ _ _ (ruled_by c.check_move_logged.ensures c.in-Err.is) c.refused.ensures
 
 pub move_bytes-work-requires : goal.move_bytes-work-requires
 move_bytes-work-requires c =
@@ -19,6 +22,10 @@ move_bytes-work-requires c =
 
 pub returns : goal.returns
 returns c =
-    let start = c.args in
-    move_log_kept core start.dest start.src start.n (λ i. omega (arith, c.type_inv.mem i))
-    (ruled_by c.check_move_logged.ensures c.in_default.is) c.move_bytes-work.ensures c.new.ensures
+    let log = c.new-log.ensures in
+    let ran = c.move_bytes-work.ensures in
+    let kept =
+    move_log_kept core c.args.dest c.args.src c.args.n (λ i. omega (arith, c.type_inv.mem i))
+    (ruled_by c.check_move_logged.ensures c.in_default.is) record { place = log.place; entries = log.entries } ran c.new.ensures in
+    let same = recorded_name ran.recorded ∙ log.same_reference in
+    record { answer = kept.answer; memory = kept.memory; log = let written = kept.log in search rules }

@@ -1,32 +1,30 @@
 -- `texts::tables::number_in` is the number of a text in a table.
--- Invariant: it is none of the first i, so that the rest of the table decides. The measure is what is left of `count`. Assumes nothing.
-use Rattle.std.proofs.Common.{sym, ◌∙◌, arith, length-take-le}
-use Rattle.texts.proofs.TextLaws.{number_begins, number_here, number_later, number_none}
+-- Invariant: it is none of the first i, so that what is left of the table decides. Assumes nothing.
+use Rattle.std.proofs.Common.{◌≡◌, arith, rules, tests}
+use Rattle.std.proofs.lemmas.Bool.Decides.{nat_tests}
+use Rattle.std.proofs.lemmas.Fn.{always_returns_same}
+use Rattle.texts.specs.Texts.{first_text, later_texts}
+use Rattle.texts.proofs.Fronts.{is_text_same}
+use Rattle.texts.proofs.TextLaws.{left_of, next_text, number_next, number_none}
 use Rattle.texts.proofs.tables.number_in.Goals as goal
+use Rattle.texts.proofs.tables.number_in.Goals.{After-unwrap_or_default}
 
-pub loop-i-init : goal.loop-i-init
-loop-i-init c = (omega arith, number_begins _ _ _)
+-- The part that comes is the first text of what is left.
+next : (c : After-unwrap_or_default)
+    → (c.unwrap_or_default.result.now ≡ first_text (left_of c.loop-i.texts))
+    × (left_of c.next.new.self ≡ later_texts (left_of c.loop-i.texts))
+next c =
+    next_text _ _ _ _ _ c.next.ensures.steps (always_returns_same _ _ _ (λ a r f k. search (rules, tests))) c.unwrap_or_default.ensures
 
-pub slice_bounds-is_text-end : goal.slice_bounds-is_text-end
-slice_bounds-is_text-end c = sym (length-take-le _ _ c.first_length-end.ensures.1)
-
-pub returns-then-is_text : goal.returns-then-is_text
-returns-then-is_text c =
-    number_here _ _ _ _ c.loop-i-test.true
-    (rw (← c.first_length-end.ensures.0) (sym c.is_text.ensures ∙ c.if-is_text.true)) ∙ sym
-    c.loop-i.invariant.1
-
-pub past_first-past-requires : goal.past_first-past-requires
-past_first-past-requires c = c.first_length-end.ensures.0
+pub returns-then-eq : goal.returns-then-eq
+returns-then-eq c =
+    let first = next (goal.at.returns-then-eq c).After-unwrap_or_default in
+    grind (arith, nat_tests, is_text_same, number_next)
 
 pub loop-i-preserved : goal.loop-i-preserved
-loop-i-preserved c = (
-  omega arith,
-  c.loop-i.invariant.1 ∙ number_later _ _ _ _ _
-      c.loop-i-test.true
-      (rw (← c.first_length-end.ensures.0) (sym c.is_text.ensures ∙ c.if-is_text.false))
-      c.past_first-past.ensures.0,
-)
+loop-i-preserved c =
+    let first = next (goal.at.loop-i-preserved c).After-unwrap_or_default in
+    grind (arith, nat_tests, is_text_same, number_next)
 
 pub returns : goal.returns
-returns c = number_none _ _ _ _ c.loop-i-test.false ∙ sym c.loop-i.invariant.1
+returns c = grind (arith, number_none)

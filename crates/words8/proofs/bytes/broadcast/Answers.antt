@@ -46,11 +46,5 @@ pub loop-bits-init : goal.loop-bits-init
 unfolding read_le
 loop-bits-init c = record { n = 1; size = omega arith; divides = mod-one W; word = omega arith }
 
-pub loop-bits-smaller : goal.loop-bits-smaller
-loop-bits-smaller c = omega (arith, some c.loop-bits.invariant.n c.loop-bits.invariant.divides)
-
 pub loop-bits-preserved : goal.loop-bits-preserved
 loop-bits-preserved c = twice (omega arith) c.loop-bits.invariant (omega arith)
-
-pub returns : goal.returns
-returns c = whole c.loop-bits.invariant (omega arith)

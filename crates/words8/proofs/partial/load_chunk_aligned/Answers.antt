@@ -1,7 +1,6 @@
 -- `words8::partial::load_chunk_aligned`: a chunk is loaded where the size has its digit (`Set`), and placed above those before it.
 -- Assumes nothing.
 use native.Mathlib.Omega.{arith}
-use Rattle.model.proofs.LogLaws.{recorded_joinable}
 use Rattle.words8.proofs.Chunks.{Set, asked_set, digit_clear, none_loaded, one_loaded}
 use Rattle.words8.proofs.partial.load_chunk_aligned.Goals as goal
 use Rattle.words8.proofs.partial.load_chunk_aligned.Goals.{Else-load_sz-chunk_sz-eq0}
@@ -26,14 +25,6 @@ bits-requires c = omega (arith, (set (goal.at.bits-requires c).Else-load_sz-chun
 
 pub overflow_shl-placed : goal.overflow_shl-placed
 overflow_shl-placed c = omega (arith, (set (goal.at.overflow_shl-placed c).Else-load_sz-chunk_sz-eq0).room, (set (goal.at.overflow_shl-placed c).Else-load_sz-chunk_sz-eq0).some)
-
-pub overflow_add-next : goal.overflow_add-next
-overflow_add-next c = omega (arith, (set (goal.at.overflow_add-next c).Else-load_sz-chunk_sz-eq0).room)
-
-pub join-joined-requires : goal.join-joined-requires
-join-joined-requires c =
-    recorded_joinable c.requires.so.recorded c.load-chunk.ensures.recorded
-    (omega (arith, c.requires.so.few, (set (goal.at.join-joined-requires c).Else-load_sz-chunk_sz-eq0).room))
 
 pub returns : goal.returns
 returns c =
