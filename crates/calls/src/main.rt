@@ -28,13 +28,14 @@ struct Session {
     // For the calls with a log. A log is a part of it.
     log: [u32; MOST_ROOM],
     // What of these two is unread, and what waits to be printed, the stream says.
+    // Stays: fixed arrays with their ends in `stream`: this project uses no heap, and a field such as `Out` cannot borrow another.
     input: [u8; MOST_INPUT],
     output: [u8; MOST_OUTPUT],
     stream: Stream,
 }
 
 // What ends a run before its time. No more is answered then, and nothing more is printed.
-#[derive(Clone, Copy)]
+#[derive(Clone, Copy, Debug, PartialEq, Eq)]
 enum Failure {
     Output,
     Input,
@@ -73,6 +74,7 @@ fn read_more(rt: &(impl Input + Print), waiting: &[u8], room: &mut [u8]) -> Resu
 }
 
 // Where the first newline stands; how many the bytes are where none does.
+// Stays: no Option, as the definitions `index_of` and `newline_at` say: a line ends there in both cases, and `turn` tests once which it is.
 fn newline_in(bytes: &[u8]) -> usize
     ensures place { result ≡ index_of 10 bytes.now }
     ensures within { result ≤ length bytes.now }

@@ -8,6 +8,7 @@ ghost use Rattle.words8.specs.Word.{W};
 use words8::{BACKWARD, FORWARD, WORD_COPY_THRESHOLD, WORD_SIZE};
 
 // A partial load of `m` bytes: one for each of its binary digits.
+// Stays: the definition's sum (`ones`), of which `single_bytes_not_foreseen` leaves a part out.
 fn ones(m: usize) -> usize
     ensures { result ≡ ones m }
 {
@@ -35,7 +36,8 @@ fn phase_accesses(head: usize, offset: usize, n: usize) -> usize
 }
 
 // A copy or move in one direction.
-fn along_accesses<const UP: bool>(dest: usize, src: usize, n: usize) -> usize
+// Stays: the bounds are of sums of two arguments, in three contracts: a type of them would be made and taken apart at each call.
+pub fn along_accesses<const UP: bool>(dest: usize, src: usize, n: usize) -> usize
     requires { (dest + n < 2 ^ 60) × (src + n < 2 ^ 60) }
     ensures { result ≡ length (along UP W dest src n) }
 {

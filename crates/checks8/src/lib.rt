@@ -70,8 +70,8 @@ fn check_room(room: usize, accesses: usize) -> Result<(), Refusal>
     Ok(())
 }
 
-// Stays: three functions, for the tables and the lists are of three calls (`log_table`).
 // The lines of a copy, a move and a fill, and line 6.
+// Stays: three functions: `CopyLogPromise`, `MoveLogPromise` and `FillLogPromise` each ask a table and a list of their own.
 pub fn check_copy_logged(
     k: usize,
     room: usize,

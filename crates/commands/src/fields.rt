@@ -29,6 +29,7 @@ fn count_front<F: Fn(u8) -> bool>(s: &[u8], test: F) -> usize
 }
 
 // Where the first field stands: it is empty where there is none.
+// Stays: no Option, as the definition `field_of` says: a field that is missing is read as an empty one, and `operand_of` refuses it.
 pub fn first_field(s: &[u8]) -> Range<usize>
     ensures { Spans s.now result }
 {

@@ -51,6 +51,7 @@ pub enum Call {
     Bcmp,
 }
 
+// Stays: fields by their place: `say` fills them from five numbers in their order, and `lines` hands them on in it.
 #[derive(Clone, Copy, Debug, PartialEq, Eq)]
 pub enum Command {
     // A line with no field.
@@ -92,6 +93,7 @@ fn limited_field(text: &[u8], most: usize, many: Why) -> Result<usize, Why>
 }
 
 // A value is taken from the line where it is used, and stands for no number here.
+// Stays: 0 for a value that is good: the numbers of the fields are one array (`read_fields`), and an Option in it would be no plainer.
 #[tactic(auto, unfolding(crate::specs::Commands::value_field))]
 fn value_field(text: &[u8]) -> Result<usize, Why>
     ensures { result ≡ value_field text.now }
@@ -170,6 +172,7 @@ fn inside_memory(address: usize, count: usize, command: Command) -> Result<Comma
 }
 
 // The value of field i; 0 where it is none.
+// Stays: 0, as the definition `value_at` says: the field has been read before, and is known to be a value wherever this is used.
 #[tactic(auto, unfolding(crate::specs::Commands::value_at))]
 fn value_at(line: &[u8], i: usize) -> i32
     ensures { result ≡ value_at line.now i }
@@ -201,7 +204,7 @@ fn say(line: &[u8], row: usize, numbers: [usize; MOST_FIELDS]) -> Result<Command
 }
 
 // The commands' words, in the order of docs/TEXT-FORM.md. The kinds of their fields stand in `known`, in the same order.
-// Stays: a text of words, and a row by its number: `word_table` and `number_in` say so, and `words_exchanged` is the first of these texts.
+// Stays: a text of words, and a row by its number, as the definition `word_table` says; `words_exchanged` exchanges two words of this text.
 fn row_of(word: &[u8]) -> Option<usize>
     ensures { SomeIff result (number_in row_count word_table word.now < row_count) (number_in row_count word_table word.now) }
 {

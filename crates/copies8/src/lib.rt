@@ -54,6 +54,7 @@ fn copy_chunks<const UP: bool, const SIZE: usize>(
 }
 
 // Of two words that were loaded one after the other, the word that begins at byte `offset` of the lower one.
+// Stays: 0 < offset < W is a clause, here and below: a type that kept it would be opened at each shift and each address.
 fn word_across<const UP: bool>(prev_word: Word, cur_word: Word, offset: usize) -> Word
     requires { (0 < offset) × (offset < W) }
     ensures { result ≡ read_le (view W (ordered UP prev_word cur_word)) offset W }
@@ -95,6 +96,7 @@ fn copy_next_word<const UP: bool>(
 }
 
 // Loads a part of the word at `src_aligned`: its end, from byte `offset` on, or its front, the bytes below it.
+// Stays: which part is a parameter, since a const argument cannot be `!UP`.
 fn load_part(
     mem: &[Word],
     log: &mut Log,

@@ -13,8 +13,8 @@ use words8::access::store;
 use words8::bytes::broadcast;
 use words8::{WORD_COPY_THRESHOLD, WORD_SIZE, Word};
 
-// Stays: that a range lies inside the words is a clause (`Range`), and no type: the words are lent beside it.
 // Fills chunks of `SIZE` bytes: bytes at the edges (`set_bytes_bytes` of impls.rs), words between them (`set_bytes_words`).
+// Stays: `Range` is a clause of every routine: a type that kept it would have to hold the words, which the next routine is lent again.
 fn set_chunks<const SIZE: usize>(mem: &mut [Word], log: &mut Log, s: usize, c: u8, n: usize) -> Work
     requires { (Range W (length mem.old) s n) × ((W % SIZE ≡ 0) × (s % SIZE ≡ 0)) }
     ensures { Ran W (filling c) (stores SIZE s (n / SIZE)) (lent mem.old log.old) (lent mem.new log.new) result }

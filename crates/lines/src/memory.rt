@@ -77,6 +77,7 @@ fn put_next(mem: &mut [Word], address: usize, hex: &[u8], i: usize) -> usize
 }
 
 // Sets the bytes from an address on, two digits for each.
+// Stays: that a text is digits is a clause: what is handed in is a field of the line as it stands, and `Fine` says so of it.
 pub fn put_bytes(mem: &mut [Word], address: usize, hex: &[u8])
     requires { (Range W (length mem.old) address (length hex.now / 2)) × (all_digits hex.now ≡ true) }
     ensures { Put W hex.now address (length hex.now / 2) mem.old mem.new }

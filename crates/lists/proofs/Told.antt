@@ -60,9 +60,11 @@ same_list core k (x ∷ xs) [] r s p q l e = absurd (suc-ne-zero (length xs) l)
 same_list core k (x ∷ xs) (y ∷ ys) r s (next f p) (next g q) l e =
     ap₂ ◌∷◌ (one_entry core k x y f g (ap (λ (ns : List ℕ). get_or ns 0 0) e)) (same_list core k xs ys r s p q (suc_inj l) (ap (drop 1) e))
 
-pub log_tells : {W : ℕ} {xs ys : List Access} {h g : Log} {a b : Work} → Core W → (k : ℕ) → Every (fits W k) xs → Every (fits W k) ys
-    → h.place ≡ 0 → length xs ≤ length h.entries.now → length ys ≤ length h.entries.now → Recorded xs h g a → Recorded ys h g b → xs ≡ ys
+-- Two logs in which the same numbers were left, from their start on, whatever stood there before.
+pub log_tells : {W : ℕ} {xs ys : List Access} {g g' h h' : Log} {a b : Work} → Core W → (k : ℕ) → Every (fits W k) xs → Every (fits W k) ys
+    → g.place ≡ 0 → h.place ≡ 0 → length xs ≤ length g.entries.now → length ys ≤ length h.entries.now → Recorded xs g g' a
+    → Recorded ys h h' b → g'.place ≡ h'.place → g'.entries.now ≡ h'.entries.now → xs ≡ ys
 unfolding log_after
-log_tells {xs = xs} {ys} {h} core k p q e l m u v =
-    same_list core k xs ys (drop (length xs) h.entries.now) (drop (length ys) h.entries.now) p q (sym (log_place u e l) ∙ log_place v e m)
-    (sym (log_written u e l) ∙ log_written v e m)
+log_tells {xs = xs} {ys} {g} {g'} {h} {h'} core k p q d e l m u v i n =
+    same_list core k xs ys (drop (length xs) g.entries.now) (drop (length ys) h.entries.now) p q (sym (log_place u d l) ∙ i ∙ log_place v e m)
+    (sym (log_written u d l) ∙ n ∙ log_written v e m)

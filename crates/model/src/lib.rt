@@ -37,7 +37,7 @@ pub fn zero() -> Work
 }
 
 // 0, 1, 2, 3 for 1, 2, 4, 8 bytes.
-// Stays: the code is document 02's number (`width_code` of Log.antt); a width is a number that addresses and shifts are worked out from.
+// Stays: document 02's table of codes (`width_code` of Log.antt), a line for each; `code_of_eight` is one of them.
 pub fn width_code(width: usize) -> usize
     requires { 8 % width ≡ 0 }
     ensures { (result < 4) × (2 ^ result ≡ width) }
@@ -103,6 +103,7 @@ impl<'a> Log<'a> {
     }
 
     // One load: for the routine that makes it.
+    // Stays: a load and a store are two methods, for the edits `store_among_loads` and `store_entered_as_a_load` are of the second alone.
     pub fn load_of(&mut self, at: usize, width: usize) -> Work
         requires { (8 % width ≡ 0) × (at < per_code) }
         ensures { Recorded (load width at ∷ []) self.old self.new result }
@@ -159,7 +160,7 @@ pub enum Refusal {
     ShortLog,
 }
 
-// Stays: these are document 01's numbers (`number_of`), which an answer's text says.
+// Stays: document 01's table of numbers (`number_of`), a line for each; `overlap_has_the_number_of_outside` is one of them.
 impl From<Refusal> for u64 {
     ghost from_gives = { λ why number. number ≡ number_of why };
 

@@ -14,8 +14,7 @@ use model::{Answer, Outcome};
 use std::io;
 
 // A buffer that is lent, and where what is written there ends: what comes next stands from there on.
-// Stays: how much room a function asks is its own (`Room`), so that no field of this could say it for all. And it is no twin of `Log`, which
-// has the same shape: a log that is full drops what comes, and here room is asked.
+// Stays: how much room is asked is each function's own (`Room`); and no twin of `Log`, which drops what finds no room.
 #[derive(Drop)]
 pub struct Out<'a> {
     pub bytes: &'a mut [u8],

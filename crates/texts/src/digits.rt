@@ -3,7 +3,7 @@ ghost use Rattle.std.specs.Prelude.{◌≡◌, ◌<◌, SomeIff};
 ghost use Rattle.texts.specs.Digits.{digit_of, all_digits};
 
 // The value of a digit.
-// Stays: std's `to_digit` would do; the wrong program `digit_a_is_eleven` is an arm of this match.
+// Stays: std's `to_digit` is of a char and gives a u32: with two conversions it is no plainer, and `digit_a_is_eleven` is an arm of this.
 #[tactic(auto, using(std::proofs::lemmas::Bool::Decides::nat_tests), unfolding(crate::specs::Digits::digit_of))]
 pub fn digit(byte: u8) -> Option<u8>
     ensures { SomeIff result (digit_of byte < 16) (digit_of byte) }
@@ -18,7 +18,7 @@ pub fn digit(byte: u8) -> Option<u8>
 
 // The value of a byte that is known to be a digit, with no test: `A` and `a` stand one past a multiple of 16, and only letters are 64 or
 // above.
-// Stays: std's `to_digit` tests the byte once more, at each digit of a long HEX.
+// Stays: std's `to_digit` is of a char and gives an Option of a u32: with two conversions and an `unwrap` it is no plainer.
 #[tactic(auto, using(std::proofs::lemmas::Bool::Decides::nat_tests), unfolding(crate::specs::Digits::digit_of))]
 pub fn digit_value(byte: u8) -> u8
     requires { digit_of byte < 16 }

@@ -12,6 +12,7 @@ use crate::{WORD_SIZE, Word};
 use model::{Counted, Log, Work};
 
 // Loads `width` bytes, as a number.
+// Stays: `mem` and `log` apart, here and in all routines: a scan is lent the words to be read alone, and a copy to be written.
 pub fn load(mem: &[Word], log: &mut Log, at: usize, width: usize) -> Counted<Word>
     requires { Fit W (length mem.now) width at }
     ensures { Found (read_le (view W mem.now) at width) (load width at ∷ [])

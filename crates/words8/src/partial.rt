@@ -21,6 +21,7 @@ pub struct Loading {
 
 // Loads a chunk of `chunk_sz` bytes at the offset from `src` on into `out`, at the offset from its byte `dst` on, if that does not
 // exceed `load_sz`: if `load_sz` has that binary digit. The address must then be a multiple of `chunk_sz`, and the offset advances.
+// Stays: what it takes apart, since a struct of it would serve this one contract, which would take it apart again.
 pub fn load_chunk_aligned(
     mem: &[Word],
     log: &mut Log,
@@ -51,9 +52,9 @@ pub fn load_chunk_aligned(
     }
 }
 
-// Stays: two functions, as in impls.rs: the order of the widths is what keeps every access aligned (`end_partial_widest_first`).
 // Loads the first `load_sz` bytes of the word at `src`, fewer than a word. Acts as if the whole word was loaded, its other bytes
 // being 0.
+// Stays: two functions: the orders of the widths differ, which is what keeps the accesses aligned, and the values by `256 ^ (W - load_sz)`.
 pub fn load_aligned_partial(
     mem: &[Word],
     log: &mut Log,
