@@ -1,7 +1,7 @@
 -- What each turn of the test program does, from a session s to a session r. The memory, the log, the input and the output have the sizes
 -- that their types say. That the unread bytes lie inside the input, and what waits inside the output, is a fact of every `Stream`.
 -- Assumes nothing.
-use Rattle.std.specs.Prelude.{◌≡◌, true, false, List, [], ◌++◌, ◌⊎◌, ℕ, ◌+◌, ◌-◌, ◌≤◌, ◌<◌, length, take, drop, replicate, ◌==◌, Result, IsOk, IfOk}
+use Rattle.std.specs.Prelude.{◌≡◌, true, false, List, [], ◌++◌, ◌⊎◌, ℕ, ◌+◌, ◌-◌, ◌≤◌, ◌<◌, length, take, drop, replicate, ◌==◌, Result, IsOk, IsErr, IfOk}
 use Rattle.std.specs.List.{position_or_len}
 use Rattle.commands.specs.Commands.{command_of}
 use Rattle.lines.specs.Lines.{answer_of, LeftBy}
@@ -98,8 +98,8 @@ pub record OneTurn (s r : Session) (done : Done) : Type 0 where
   pub same : newline_at s < s.stream.end → r.input ≡ s.input
   pub within : newline_at s ≡ s.stream.end → Within s r done
 
--- The input has ended. The unread bytes are a last line without a newline, and it is answered like any other. Where there are none, or they
--- are the rest of a line that was answered, nothing changes.
-pub record Ended (s r : Session) (done : Done) : Type 0 where
-  pub line : s.stream.skipping ≡ false → s.stream.start < s.stream.end → Took (unread_bytes s) s.stream.end s r done
-  pub none : (s.stream.skipping ≡ true) ⊎ (s.stream.start ≡ s.stream.end) → (r ≡ s) × IsOk done
+-- The input has ended, after turns that handed back `turns`. The unread bytes are a last line without a newline, and it is answered like any
+-- other. Where there are none, or they are the rest of a line that was answered, or a turn failed, nothing changes.
+pub record Ended (turns : Done) (s r : Session) (done : Done) : Type 0 where
+  pub line : IsOk turns → s.stream.skipping ≡ false → s.stream.start < s.stream.end → Took (unread_bytes s) s.stream.end s r done
+  pub none : IsErr turns ⊎ ((s.stream.skipping ≡ true) ⊎ (s.stream.start ≡ s.stream.end)) → (r ≡ s) × (done ≡ turns)

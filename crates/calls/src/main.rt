@@ -195,11 +195,12 @@ impl Session {
         self.take_line(rt, end, end, true)
     }
 
-    // The input has ended: a last line without a newline is answered too.
-    fn last_line(&mut self, rt: &impl Print) -> Result<(), Failure>
+    // The input has ended: a last line without a newline is answered too, unless one of the turns failed.
+    fn last_line(&mut self, rt: &impl Print, turns: Result<(), Failure>) -> Result<(), Failure>
         requires { self.old.stream.number + 1 < 2 ^ 64 }
-        ensures { Ended self.old self.new result }
+        ensures { Ended turns self.old self.new result }
     {
+        turns?;
         let start = self.stream.start;
         let end = self.stream.end;
         if self.stream.skipping || start == end {
@@ -214,13 +215,14 @@ impl Session {
         requires memory { self.old.mem ≡ zeros }
         requires number { self.old.stream.number ≡ 0 }
     {
+        let mut turns = Ok(());
         for _turn in 0..u64::MAX - 1 {
-            if !self.stream.more {
+            if !self.stream.more || turns.is_err() {
                 break;
             }
-            self.turn(rt)?;
+            turns = self.turn(rt);
         }
-        self.last_line(rt)?;
+        self.last_line(rt, turns)?;
         print(rt, &self.output[..self.stream.written])
     }
 }

@@ -97,6 +97,7 @@ fn copy_next_word<const UP: bool>(
 
 // Loads a part of the word at `src_aligned`: its end, from byte `offset` on, or its front, the bytes below it.
 // Stays: which part is a parameter, since a const argument cannot be `!UP`.
+#[inline(always)]
 fn load_part(
     mem: &[Word],
     log: &mut Log,
@@ -115,6 +116,7 @@ fn load_part(
 }
 
 // `copy_next_word` where the word that it loads is partly out of bounds: no more of it is loaded than is stored.
+#[inline(always)]
 fn copy_last_word<const UP: bool>(
     mem: &mut [Word],
     log: &mut Log,
@@ -141,6 +143,7 @@ fn copy_last_word<const UP: bool>(
 
 // `n` is in units of bytes, but must be a multiple of the word size and must not be 0.
 // `src` must not be aligned.
+#[inline(always)]
 fn copy_misaligned_words<const UP: bool>(
     mem: &mut [Word],
     log: &mut Log,
@@ -177,6 +180,7 @@ fn copy_misaligned_words<const UP: bool>(
 }
 
 // The words, aligned or not. `n` is in units of bytes, but must be a multiple of the word size and must not be 0.
+#[inline(always)]
 fn copy_words<const UP: bool>(
     mem: &mut [Word],
     log: &mut Log,
@@ -198,6 +202,7 @@ fn copy_words<const UP: bool>(
 }
 
 // `dest` and `src` are the first addresses here, in both directions.
+#[inline(always)]
 pub fn copy<const UP: bool>(
     mem: &mut [Word],
     log: &mut Log,

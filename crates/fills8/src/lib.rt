@@ -28,6 +28,7 @@ fn set_chunks<const SIZE: usize>(mem: &mut [Word], log: &mut Log, s: usize, c: u
     work
 }
 
+#[inline(always)]
 pub fn set_bytes(mem: &mut [Word], log: &mut Log, s: usize, c: u8, n: usize) -> Work
     requires { Range W (length mem.old) s n }
     ensures { Ran W (filling c) (fill_list W s n) (lent mem.old log.old) (lent mem.new log.new) result }

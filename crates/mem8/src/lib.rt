@@ -1,5 +1,6 @@
 // The six calls of mod.rs, in its order and under its names, over lent words. Each checks its input, and then does what
-// mod.rs does. None asks anything of its caller. They lend a log of no places: every access is written to it, and none is kept.
+// mod.rs does. None asks anything of its caller. They lend a log of no places: every access is written to it, and none is kept. Their routines
+// are inlined into them and they into no caller, for speed: a log behind a reference would be asked for its length at every access.
 #![tactic(auto)]
 
 pub mod logged;
@@ -24,6 +25,7 @@ use scans8::{c_string_length, compare_bytes};
 use words8::{BACKWARD, FORWARD, Word};
 
 // Stays: each call of mod.rs is a function of its own, under its name: its checks, its routine and its promise set it apart.
+#[inline(never)]
 pub fn memcpy(mem: &mut [Word], dest: usize, src: usize, n: usize) -> Answer
     ensures { CopyPromise W mem.old dest src n result mem.new }
 {
@@ -36,6 +38,7 @@ pub fn memcpy(mem: &mut [Word], dest: usize, src: usize, n: usize) -> Answer
     Answer::new(Outcome::Address(dest), work)
 }
 
+#[inline(always)]
 fn move_bytes(mem: &mut [Word], log: &mut Log, dest: usize, src: usize, n: usize) -> Work
     requires { (Range W (length mem.old) dest n) × (Range W (length mem.old) src n) }
     ensures { Ran W (moving dest src) (move_list W dest src n)
@@ -50,6 +53,7 @@ fn move_bytes(mem: &mut [Word], log: &mut Log, dest: usize, src: usize, n: usize
     }
 }
 
+#[inline(never)]
 pub fn memmove(mem: &mut [Word], dest: usize, src: usize, n: usize) -> Answer
     ensures { MovePromise W mem.old dest src n result mem.new }
 {
@@ -69,6 +73,7 @@ fn fill_byte(c: i32) -> u8
     (c & 255) as u8
 }
 
+#[inline(never)]
 pub fn memset(mem: &mut [Word], s: usize, c: i32, n: usize) -> Answer
     ensures { FillPromise W mem.old s c n result mem.new }
 {

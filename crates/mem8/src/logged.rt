@@ -10,6 +10,7 @@ use model::{Answer, Log, Outcome};
 use words8::{FORWARD, Word};
 
 // Stays: a function for each, as the plain calls are: each has its own checks, its own routine and its own promise.
+#[inline(never)]
 pub fn memcpy_logged(mem: &mut [Word], log: &mut [u32], dest: usize, src: usize, n: usize) -> Answer
     ensures { CopyLogPromise W mem.old log.old dest src n result
         mem.new log.new }
@@ -22,6 +23,7 @@ pub fn memcpy_logged(mem: &mut [Word], log: &mut [u32], dest: usize, src: usize,
     Answer::new(Outcome::Address(dest), work)
 }
 
+#[inline(never)]
 pub fn memmove_logged(
     mem: &mut [Word],
     log: &mut [u32],
@@ -40,6 +42,7 @@ pub fn memmove_logged(
     Answer::new(Outcome::Address(dest), work)
 }
 
+#[inline(never)]
 pub fn memset_logged(mem: &mut [Word], log: &mut [u32], s: usize, c: i32, n: usize) -> Answer
     ensures { FillLogPromise W mem.old log.old s c n result
         mem.new log.new }

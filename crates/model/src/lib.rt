@@ -90,7 +90,8 @@ impl<'a> Log<'a> {
         requires { number < 2 ^ 32 }
         ensures { self.new ≡ entered number self.old }
     {
-        // The plain calls lend no places. This test is the same in every turn of a loop, so that the compiler can make it once, before the loop.
+        // The plain calls lend no places. This test is the same in every turn of a loop, so that the compiler can make it once, before the loop,
+        // or not at all: for that the routines are inlined into the calls, where the log is a local (`inline` in `mem8` and below).
         if self.entries.len() == 0 {
             return;
         }

@@ -22,6 +22,7 @@ pub struct Loading {
 // Loads a chunk of `chunk_sz` bytes at the offset from `src` on into `out`, at the offset from its byte `dst` on, if that does not
 // exceed `load_sz`: if `load_sz` has that binary digit. The address must then be a multiple of `chunk_sz`, and the offset advances.
 // Stays: what it takes apart, since a struct of it would serve this one contract, which would take it apart again.
+#[inline(always)]
 pub fn load_chunk_aligned(
     mem: &[Word],
     log: &mut Log,
@@ -55,6 +56,7 @@ pub fn load_chunk_aligned(
 // Loads the first `load_sz` bytes of the word at `src`, fewer than a word. Acts as if the whole word was loaded, its other bytes
 // being 0.
 // Stays: two functions: the orders of the widths differ, which is what keeps the accesses aligned, and the values by `256 ^ (W - load_sz)`.
+#[inline(always)]
 pub fn load_aligned_partial(
     mem: &[Word],
     log: &mut Log,
@@ -83,6 +85,7 @@ pub fn load_aligned_partial(
 
 // Loads the last `load_sz` bytes of the word at `src`, fewer than a word. Acts as if the whole word was loaded, its other bytes
 // being 0: what is loaded stands at the end of the result.
+#[inline(always)]
 pub fn load_aligned_end_partial(
     mem: &[Word],
     log: &mut Log,
