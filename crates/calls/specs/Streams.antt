@@ -1,7 +1,7 @@
 -- What each turn of the test program does, from a session s to a session r. The memory, the log, the input and the output have the sizes
 -- that their types say. That the unread bytes lie inside the input, and what waits inside the output, is a fact of every `Stream`.
 -- Assumes nothing.
-use Rattle.std.specs.Prelude.{◌≡◌, true, false, List, [], ◌++◌, ◌⊎◌, ℕ, ◌+◌, ◌-◌, ◌≤◌, ◌<◌, length, take, drop, replicate, ◌==◌, Result, IsOk, IsErr, IfOk}
+use Rattle.std.specs.Prelude.{◌≡◌, true, false, List, [], ◌++◌, ◌⊎◌, ℕ, ◌+◌, ◌-◌, ◌≤◌, ◌<◌, length, take, drop, replicate, ◌==◌, Result, IsOk, IfOk, is_err}
 use Rattle.std.specs.List.{position_or_len}
 use Rattle.commands.specs.Commands.{command_of}
 use Rattle.lines.specs.Lines.{answer_of, LeftBy}
@@ -38,13 +38,14 @@ pub record Roomy (written : ℕ) (r : Result ℕ Failure) : Type 0 where
   pub fine : written ≤ longest_answer → IsOk r
 
 -- A line was answered: the words are as it leaves them, the answer waits, the line is counted, and the next unread byte stands at `next`.
--- The input stays, more of it may come as before, and nothing failed where nothing had to be printed first.
+-- The input stays, more of it may come as before, and nothing failed where nothing had to be printed first; what failed, the stream keeps.
 pub record Took (line : List ℕ) (next : ℕ) (s r : Session) (done : Done) : Type 0 where
   pub start : r.stream.start ≡ next
   pub end : r.stream.end ≡ s.stream.end
   pub number : r.stream.number ≡ s.stream.number + 1
   pub more : r.stream.more ≡ s.stream.more
   pub fine : s.stream.written ≤ longest_answer → IsOk done
+  pub failed : r.stream.failed ≡ is_err done
   pub input : r.input ≡ s.input
   pub memory : LeftBy s.mem line (command_of memory_words line) r.mem
   pub answer : Waits (answer_of s.mem (s.stream.number + 1) line (command_of memory_words line)) s.stream.written s.output r.stream.written r.output
@@ -87,10 +88,12 @@ pub record Passed (next : ℕ) (s r : Session) (done : Done) : Type 0 where
   pub skipping : r.stream.skipping ≡ false
   pub more : r.stream.more ≡ s.stream.more
   pub fine : IsOk done
+  pub failed : r.stream.failed ≡ s.stream.failed
   pub memory : r.mem ≡ s.mem
 
--- One turn: the line up to the first newline is answered, unless it is the rest of one that was.
+-- One turn: the line up to the first newline is answered, unless it is the rest of one that was. What failed, the stream keeps.
 pub record OneTurn (s r : Session) (done : Done) : Type 0 where
+  pub failed : s.stream.failed ≡ false → r.stream.failed ≡ is_err done
   pub few : r.stream.number ≤ s.stream.number + 1
   pub line : newline_at s < s.stream.end → s.stream.skipping ≡ false
       → (Took (between s.stream.start (newline_at s) s.input) (newline_at s + 1) s r done) × (r.stream.skipping ≡ false)
@@ -98,8 +101,8 @@ pub record OneTurn (s r : Session) (done : Done) : Type 0 where
   pub same : newline_at s < s.stream.end → r.input ≡ s.input
   pub within : newline_at s ≡ s.stream.end → Within s r done
 
--- The input has ended, after turns that handed back `turns`. The unread bytes are a last line without a newline, and it is answered like any
--- other. Where there are none, or they are the rest of a line that was answered, or a turn failed, nothing changes.
-pub record Ended (turns : Done) (s r : Session) (done : Done) : Type 0 where
-  pub line : IsOk turns → s.stream.skipping ≡ false → s.stream.start < s.stream.end → Took (unread_bytes s) s.stream.end s r done
-  pub none : IsErr turns ⊎ ((s.stream.skipping ≡ true) ⊎ (s.stream.start ≡ s.stream.end)) → (r ≡ s) × (done ≡ turns)
+-- The input has ended. The unread bytes are a last line without a newline, and it is answered like any other. Where there are none, or they
+-- are the rest of a line that was answered, or something failed, nothing changes.
+pub record Ended (s r : Session) (done : Done) : Type 0 where
+  pub line : s.stream.failed ≡ false → s.stream.skipping ≡ false → s.stream.start < s.stream.end → Took (unread_bytes s) s.stream.end s r done
+  pub none : (s.stream.failed ≡ true) ⊎ ((s.stream.skipping ≡ true) ⊎ (s.stream.start ≡ s.stream.end)) → (r ≡ s) × IsOk done

@@ -4,7 +4,7 @@
 
 mod streams;
 
-ghost use Rattle.std.specs.Prelude.{◌≡◌, ◌+◌, ◌≤◌, ◌<◌, ◌^◌, length, IfOk};
+ghost use Rattle.std.specs.Prelude.{◌≡◌, ◌+◌, ◌≤◌, ◌<◌, ◌^◌, length, IfOk, is_err};
 ghost use Rattle.calls.specs.Streams.{zeros, between, unread_bytes, index_of, Roomy, Took, Joined, Unanswered, OneTurn, Ended};
 
 use commands::{MOST_LINE, MOST_ROOM};
@@ -102,6 +102,7 @@ impl Session {
                 number: 0,
                 skipping: false,
                 more: true,
+                failed: false,
             },
         }
     }
@@ -143,6 +144,7 @@ impl Session {
         stream.start = next;
         stream.number = number;
         stream.skipping = skipping;
+        stream.failed = room.is_err();
         room.map(|_| ())
     }
 
@@ -150,6 +152,7 @@ impl Session {
     fn read_on(&mut self, rt: &(impl Input + Print)) -> Result<(), Failure>
         ensures unanswered { Unanswered self.old self.new }
         ensures joined { Joined (unread_bytes self.old) self.new }
+        ensures failed { self.new.stream.failed ≡ is_err result }
     {
         let Session {
             input,
@@ -165,6 +168,7 @@ impl Session {
         stream.end = kept + came;
         stream.written = 0;
         stream.more = came > 0;
+        stream.failed = got.is_err();
         got.map(|_| ())
     }
 
@@ -195,15 +199,14 @@ impl Session {
         self.take_line(rt, end, end, true)
     }
 
-    // The input has ended: a last line without a newline is answered too, unless one of the turns failed.
-    fn last_line(&mut self, rt: &impl Print, turns: Result<(), Failure>) -> Result<(), Failure>
+    // The input has ended: a last line without a newline is answered too, unless something failed.
+    fn last_line(&mut self, rt: &impl Print) -> Result<(), Failure>
         requires { self.old.stream.number + 1 < 2 ^ 64 }
-        ensures { Ended turns self.old self.new result }
+        ensures { Ended self.old self.new result }
     {
-        turns?;
         let start = self.stream.start;
         let end = self.stream.end;
-        if self.stream.skipping || start == end {
+        if self.stream.failed || self.stream.skipping || start == end {
             return Ok(());
         }
         self.take_line(rt, end, end, false)
@@ -215,14 +218,13 @@ impl Session {
         requires memory { self.old.mem ≡ zeros }
         requires number { self.old.stream.number ≡ 0 }
     {
-        let mut turns = Ok(());
         for _turn in 0..u64::MAX - 1 {
-            if !self.stream.more || turns.is_err() {
+            if !self.stream.more {
                 break;
             }
-            turns = self.turn(rt);
+            self.turn(rt)?;
         }
-        self.last_line(rt, turns)?;
+        self.last_line(rt)?;
         print(rt, &self.output[..self.stream.written])
     }
 }

@@ -4,7 +4,7 @@ ghost use Rattle.std.specs.Prelude.{◌≤◌};
 ghost use Rattle.calls.specs.Sizes.{most_output, most_input};
 
 // Of the input, the bytes from `start` up to `end` are unread; of the output, the first `written` bytes are not printed yet.
-// Stays: two flags, and no enum of states. A line may be passed over when the input ends, and `Unanswered` then keeps `skipping`.
+// Stays: three flags, and no enum of states. A line may be passed over when the input ends, and `Unanswered` then keeps `skipping`.
 #[derive(Drop)]
 pub struct Stream {
     pub start: usize,
@@ -16,6 +16,9 @@ pub struct Stream {
     pub skipping: bool,
     // More input may come.
     pub more: bool,
+    // The output could not be written or the input not be read, as is handed back too. It stands here so that no more is answered then,
+    // whatever becomes of what was handed back.
+    pub failed: bool,
     ghost ordered: { start ≤ end },
     ghost in_input: { end ≤ most_input },
     ghost in_output: { written ≤ most_output },

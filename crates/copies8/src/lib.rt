@@ -180,6 +180,7 @@ fn copy_misaligned_words<const UP: bool>(
 }
 
 // The words, aligned or not. `n` is in units of bytes, but must be a multiple of the word size and must not be 0.
+// `src_misalignment` is that of `src`.
 #[inline(always)]
 fn copy_words<const UP: bool>(
     mem: &mut [Word],
@@ -187,13 +188,14 @@ fn copy_words<const UP: bool>(
     dest: usize,
     src: usize,
     n: usize,
+    src_misalignment: usize,
 ) -> Work
-    requires { (Words UP W (length mem.old) dest src n) × (0 < n) }
+    requires words { (Words UP W (length mem.old) dest src n) × (0 < n) }
+    requires misalignment { src_misalignment ≡ src % W }
     ensures { Ran W (moving dest src) (whole_words UP W dest src (n / W))
         (lent mem.old log.old)
         (lent mem.new log.new) result }
 {
-    let src_misalignment = src % WORD_SIZE;
     if src_misalignment == 0 {
         copy_chunks::<UP, WORD_SIZE>(mem, log, dest, src, n)
     } else {
@@ -229,7 +231,8 @@ pub fn copy<const UP: bool>(
     let n = n - dest_misalignment;
 
     let n_words = n - n % WORD_SIZE;
-    let words = copy_words::<UP>(mem, log, dest, src, n_words);
+    let src_misalignment = src % WORD_SIZE; // past the head
+    let words = copy_words::<UP>(mem, log, dest, src, n_words, src_misalignment);
     let dest = past::<UP>(dest, n_words);
     let src = past::<UP>(src, n_words);
 

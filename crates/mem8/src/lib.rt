@@ -86,6 +86,7 @@ pub fn memset(mem: &mut [Word], s: usize, c: i32, n: usize) -> Answer
     Answer::new(Outcome::Address(s), work)
 }
 
+#[inline(never)]
 pub fn memcmp(mem: &[Word], s1: usize, s2: usize, n: usize) -> Answer
     ensures { ComparePromise W mem.now s1 s2 n result mem.now }
 {
@@ -115,6 +116,7 @@ fn scan_outcome(found: Option<usize>) -> Outcome
     }
 }
 
+#[inline(never)]
 pub fn strlen(mem: &[Word], s: usize) -> Answer
     ensures { StringPromise W mem.now s result mem.now }
 {
