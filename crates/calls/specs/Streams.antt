@@ -38,7 +38,8 @@ pub record Roomy (written : ℕ) (r : Result ℕ Failure) : Type 0 where
   pub fine : written ≤ longest_answer → IsOk r
 
 -- A line was answered: the words are as it leaves them, the answer waits, the line is counted, and the next unread byte stands at `next`.
--- The input stays, more of it may come as before, and nothing failed where nothing had to be printed first; what failed, the stream keeps.
+-- The input stays, more of it may come as before, and nothing failed where nothing had to be printed first. Whether this step
+-- failed, the stream keeps.
 pub record Took (line : List ℕ) (next : ℕ) (s r : Session) (done : Done) : Type 0 where
   pub start : r.stream.start ≡ next
   pub end : r.stream.end ≡ s.stream.end
@@ -91,7 +92,8 @@ pub record Passed (next : ℕ) (s r : Session) (done : Done) : Type 0 where
   pub failed : r.stream.failed ≡ s.stream.failed
   pub memory : r.mem ≡ s.mem
 
--- One turn: the line up to the first newline is answered, unless it is the rest of one that was. What failed, the stream keeps.
+-- One turn: the line up to the first newline is answered, unless it is the rest of one that was. Where nothing had failed before,
+-- the stream keeps whether this turn failed.
 pub record OneTurn (s r : Session) (done : Done) : Type 0 where
   pub failed : s.stream.failed ≡ false → r.stream.failed ≡ is_err done
   pub few : r.stream.number ≤ s.stream.number + 1

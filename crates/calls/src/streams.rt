@@ -16,8 +16,8 @@ pub struct Stream {
     pub skipping: bool,
     // More input may come.
     pub more: bool,
-    // The output could not be written or the input not be read, as is handed back too. It stands here so that no more is answered then,
-    // whatever becomes of what was handed back.
+    // In the last step the output could not be written or the input not be read. That is handed back too; it stands here so that `last_line`
+    // answers nothing then, whatever became of what was handed back.
     pub failed: bool,
     ghost ordered: { start ≤ end },
     ghost in_input: { end ≤ most_input },

@@ -1,6 +1,7 @@
 // The six calls of mod.rs, in its order and under its names, over lent words. Each checks its input, and then does what
 // mod.rs does. None asks anything of its caller. They lend a log of no places: every access is written to it, and none is kept. Their routines
-// are inlined into them and they into no caller, for speed: a log behind a reference would be asked for its length at every access.
+// are inlined into them, since a log behind a reference is asked for its length at every access; they are inlined into no caller, since their
+// loops were slower there (`bcmp` only hands on).
 #![tactic(auto)]
 
 pub mod logged;

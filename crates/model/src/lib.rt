@@ -91,7 +91,8 @@ impl<'a> Log<'a> {
         ensures { self.new ≡ entered number self.old }
     {
         // The plain calls lend no places. This test is the same in every turn of a loop, so that the compiler can make it once, before the loop,
-        // or not at all: for that the routines are inlined into the calls, where the log is a local (`inline` in `mem8` and below).
+        // or not at all: for that the routines are inlined into the calls, where the log is a local (`inline` in `mem8`,
+        // `copies8`, `fills8` and `words8`).
         if self.entries.len() == 0 {
             return;
         }

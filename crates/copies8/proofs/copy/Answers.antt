@@ -9,6 +9,7 @@ use Rattle.words8.specs.Word.{W}
 use Rattle.runs.proofs.Asking.{both_start}
 use Rattle.runs.proofs.Phases.{Parts, parts, short_done, words_joinable, tail_joinable, long_done}
 use Rattle.words8.proofs.WordSize.{core}
+use Rattle.copies8.proofs.Besides.{besides_none, none_more}
 use Rattle.copies8.proofs.Direction.{up}
 use Rattle.copies8.proofs.copy.Goals as goal
 
@@ -23,7 +24,8 @@ cut {d} {n} {h} up d' e q l = rw (to up e) (parts core up d n l)
 
 pub returns-then-n-lt-WORD_COPY_THRESHOLD : goal.returns-then-n-lt-WORD_COPY_THRESHOLD
 returns-then-n-lt-WORD_COPY_THRESHOLD g c =
-    short_done (up g.row.UP) _ _ (omega arith) c.cursor-dest.ensures c.cursor-src.ensures c.copy_chunks.ensures
+    short_done (up g.row.UP) _ _ (omega arith) c.cursor-dest.ensures c.cursor-src.ensures
+    (none_more c.copy_chunks.ensures (search besides_none) (grind arith))
 
 pub copy_words-words-requires-clause-misalignment : goal.copy_words-words-requires-clause-misalignment
 copy_words-words-requires-clause-misalignment g c = grind arith
@@ -42,6 +44,7 @@ join-requires g c =
 pub returns : goal.returns
 returns g c =
     long_done core (up g.row.UP) _ _ _ (cut _ _ c.head-dest_misalignment.ensures (grind arith) (omega arith))
-    c.copy_chunks-first.ensures c.copy_words-words.ensures _ _ c.join-before.ensures c.copy_chunks-tail.ensures c.args.dest c.args.src
+    c.copy_chunks-first.ensures c.copy_words-words.ensures _ _ c.join-before.ensures
+    (none_more c.copy_chunks-tail.ensures (search besides_none) (grind arith)) c.args.dest c.args.src
     (rw (c.cursor-dest.ensures, c.cursor-src.ensures) (both_start (up g.row.UP) c.requires)) c.cursor-dest.ensures c.cursor-src.ensures
     c.past-dest.ensures c.past-src.ensures c.past-dest-2.ensures c.past-src-2.ensures c.join.ensures
